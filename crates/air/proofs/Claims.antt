@@ -1,0 +1,202 @@
+-- Every answer that document 01 allows for an accepted state meets demand 3's claims.
+use mathlib.Core.Bool.{Bool, true, false, cond, not}
+use mathlib.Core.Option.{Option, none, some}
+use mathlib.Core.Path.{_≡_, refl, sym, subst}
+use Prim.Native.Nat.{ℕ, suc, _≤_}
+use native.Mathlib.Omega.{arith}
+use lib.Dec.{T, leb, leb→le, le→leb, lit≤}
+use lib.IntN.{ℤ, pos, negsuc, negℤ, natAbs}
+use lib.Signed.{_≤ℤ_, _<ℤ_, leZ, ltZ, leZ-yes, ltZ-no, clashℤ}
+use Rattle.logarithm.specs.Log.{IsLog}
+use Rattle.integer.specs.Z.{up, dn}
+use Rattle.logarithm.proofs.Range.{log-least, log-most}
+use Rattle.fit.specs.Fit.{Piece}
+use Rattle.tgas.specs.declared.Band.{Band}
+use Rattle.tgas.specs.Bands.{bandOf}
+use Rattle.tgas.specs.Temperature.{temperatureIndex}
+use Rattle.tgas.specs.declared.Region.{Region}
+use Rattle.tgas.specs.declared.Region.the-variants.{Refused, Perfect, Fitted}
+use Rattle.tgas.specs.Region.{regionOf, pickRegion, beyondWindow, isPerfect}
+use Rattle.perfect.specs.Perfect.{perfectGas}
+use Rattle.kind.specs.Kind.{kindOf}
+use Rattle.kind.specs.declared.Kind.{Kind}
+use Rattle.kind.specs.declared.Kind.the-variants.{Temperature, Entropy, Unknown}
+use Rattle.air.specs.declared.Logs.{Logs}
+use Rattle.air.specs.declared.Edge.{Edge}
+use Rattle.air.specs.declared.Edges.{Edges}
+use Rattle.air.specs.declared.Edges.the-variants.{Unfitted, One}
+use Rattle.air.specs.declared.Ends.the-variants.{Unjoined}
+use Rattle.air.specs.declared.Answer.{Answer}
+use Rattle.air.specs.Quantities.{D0, E0, isDensity, isEnergy}
+use Rattle.air.specs.Held.{Held, held, refuses, judges, shows}
+use Rattle.air.specs.Temperature.{letterT, IsTemperature, TemperatureLogs, Fits, FitsIn, oneEdge, fromFit, fitOf, temperatureIn, temperatureFrom, beyondFit, pieceAt}
+use Rattle.air.specs.Entropy.{letterS, IsEntropy, entropyIn, entropyOf, beyondEntropy}
+use Rattle.air.specs.Exact.{exactTemperatureFit}
+use Rattle.air.specs.Accurate.{FitClaim, TemperatureClaim, EntropyClaim}
+use Rattle.air.specs.State.{Property, temperatureProperty, entropyProperty, propertyOf, Either, IsHeld, IsAnswer, refusesLogs, NoEdgeRefused, one, AcceptedBy, AcceptedAny, Accepted, ClaimAny, Accurate}
+use Rattle.air.proofs.Tests.{and-left, and-right, not-right, no-true, is-false, is-true, over, abs-of}
+use Rattle.air.proofs.Fit.{YRange, FittedBox, fit-near}
+use Rattle.air.proofs.Entropy.{entropy-near}
+use Rattle.air.proofs.Between.{temperature-between}
+
+first-of : (b : Bool) (A B : Type 0) → T b → Either b A B → A
+first-of true A B t x = x
+first-of false A B t x = absurd t
+
+-- ---- ranges of the carried logarithms
+le-of-dn : (k : ℕ) (l : ℤ) → dn l ≤ suc k → negsuc k ≤ℤ l
+le-of-dn k (pos n) h = leZ-yes tt
+le-of-dn k (negsuc n) h = leZ-yes (le→leb n k (omega arith))
+
+le-of-up : (k : ℕ) (l : ℤ) → up l ≤ k → l ≤ℤ pos k
+le-of-up k (pos n) h = leZ-yes (le→leb n k h)
+le-of-up k (negsuc n) h = leZ-yes tt
+
+pub y-range : (d : ℕ) (y : ℤ) → T (isDensity d) → IsLog d D0 y → YRange y
+y-range d y t h =
+    let a : 12920 ≤ d = leb→le 12920 d (and-left (leb 12920 d) (leb d 129200000000000) t) in
+    let b : d ≤ 129200000000000 = leb→le d 129200000000000 (and-right (leb 12920 d) (leb d 129200000000000) t) in
+    record {
+      least = le-of-dn 6999999 y (log-least d D0 7 y (omega arith) h);
+      most = le-of-up 3000000 y (log-most d D0 3 y (omega arith) h);
+    }
+
+-- and how far it is from 0
+pub y-most : (d : ℕ) (y : ℤ) → T (isDensity d) → IsLog d D0 y → natAbs y ≤ 7000000
+y-most d y t h = let r = y-range d y t h in abs-of 6999999 3000000 y (r .least) (r .most) 7000000 (lit≤ tt) (lit≤ tt)
+
+pub z-least : (e : ℕ) (z : ℤ) → T (isEnergy e) → IsLog e E0 z → negℤ (pos 1000000) ≤ℤ z
+z-least e z t h =
+    let a : 7840840 ≤ e = leb→le 7840840 e (and-left (leb 7840840 e) (leb e 1000000000000) t) in
+    le-of-dn 999999 z (log-least e E0 1 z (omega arith) h)
+
+-- ---- temperature
+judged-by : {k : Property} {e : Edge} → NoEdgeRefused k (One e) → T (not (k .byFit e))
+judged-by (one t) = t
+
+module _ (n : ℕ) (n-least : 128 ≤ n) (p d : ℕ) (in-density : T (isDensity d)) (l : Logs) (taken : TemperatureLogs p d l) where
+  perfect-claim : isPerfect (l .z) ≡ true → TemperatureClaim n p d (shows letterT l Unfitted Unjoined (pos (perfectGas p d)))
+  perfect-claim e =
+      record {
+        logs = l;
+        kelvin = perfectGas p d;
+        no-refusal = refl;
+        letter = refl;
+        carries = refl;
+        shows = refl;
+        taken = taken;
+        perfect = λ t. refl;
+        fitted = λ t. clashℤ {a = pos 250000} {b = l .z} t (leZ-yes (is-true e));
+      }
+
+  fitted-claim : (w : ℤ) (t : ℕ) → beyondWindow (l .z) ≡ false → isPerfect (l .z) ≡ false
+      → Fits (pieceAt (l .y) (l .z)) l w t
+      → beyondFit (fitOf (pieceAt (l .y) (l .z)) l w) ≡ false
+      → TemperatureClaim n p d (shows letterT l (oneEdge (fitOf (pieceAt (l .y) (l .z)) l w) w) Unjoined (pos t))
+  fitted-claim w t e₁ e₂ fits e₃ =
+      let k : Piece = pieceAt (l .y) (l .z) in
+      let box : FittedBox (l .y) (l .z) =
+      record {
+        density = y-range d (l .y) in-density (taken .y);
+        least = over 250000 (l .z) e₂;
+        most = ltZ-no (not-right (ltZ (l .z) (negℤ (pos 1000000))) (ltZ (pos 3000000) (l .z)) (is-false e₁));
+      } in
+      let close = fit-near n n-least (l .y) (l .z) w box (fits .weighed) in
+      record {
+        logs = l;
+        kelvin = t;
+        no-refusal = refl;
+        letter = refl;
+        carries = refl;
+        shows = refl;
+        taken = taken;
+        perfect = λ h. absurd (clashℤ {a = pos 250000} {b = l .z} (over 250000 (l .z) e₂) h);
+        fitted = λ h. record { edge = record { fit = fitOf k l w; weight = w }; carries = refl; near = close; between = temperature-between (fitOf k l w) (exactTemperatureFit n (l .y) (l .z)) t close (fits .raised (is-false e₃)) };
+      }
+
+  from-fit : (w : ℤ) (t : ℕ) (h : Held) → NoEdgeRefused temperatureProperty (h .edges)
+      → beyondWindow (l .z) ≡ false → isPerfect (l .z) ≡ false → Fits (pieceAt (l .y) (l .z)) l w t
+      → h ≡ fromFit l (fitOf (pieceAt (l .y) (l .z)) l w) w t → TemperatureClaim n p d h
+  unfolding fromFit
+  from-fit w t h no-13 e₁ e₂ fits is = go (beyondFit g) refl is
+    where
+      g : ℤ
+      g = fitOf (pieceAt (l .y) (l .z)) l w
+
+      go : (b : Bool) → beyondFit g ≡ b → h ≡ cond b (judges 13 letterT l (oneEdge g w)) (shows letterT l (oneEdge g w) Unjoined (pos t)) → TemperatureClaim n p d h
+      go true e₃ s = absurd (no-true e₃ (judged-by (subst (λ (x : Held). NoEdgeRefused temperatureProperty (x .edges)) s no-13)))
+      go false e₃ s = subst (TemperatureClaim n p d) (sym s) (fitted-claim w t e₁ e₂ fits e₃)
+
+  from-logs : (w : ℤ) (t : ℕ) (h : Held) → T (not (refusesLogs temperatureProperty (h .logs))) → NoEdgeRefused temperatureProperty (h .edges)
+      → FitsIn (regionOf (l .y) (l .z)) l w t → h ≡ temperatureIn (regionOf (l .y) (l .z)) p d l w t → TemperatureClaim n p d h
+  from-logs w t h no-12 no-13 fits is = go (beyondWindow (l .z)) (isPerfect (l .z)) refl refl fits is
+    where
+      at : Bool → Bool → Region
+      at a b = pickRegion a Refused (pickRegion b Perfect (Fitted (bandOf (l .y)) (temperatureIndex (bandOf (l .y)) (l .z))))
+
+      go : (a b : Bool) → beyondWindow (l .z) ≡ a → isPerfect (l .z) ≡ b → FitsIn (at a b) l w t → h ≡ temperatureIn (at a b) p d l w t → TemperatureClaim n p d h
+      go true b e₁ e₂ f s = absurd (no-true e₁ (subst (λ (x : Held). T (not (refusesLogs temperatureProperty (x .logs)))) s no-12))
+      go false true e₁ e₂ f s = subst (TemperatureClaim n p d) (sym s) (perfect-claim e₂)
+      go false false e₁ e₂ f s = from-fit w t h no-13 e₁ e₂ f s
+
+temperature-claim : (n : ℕ) → 128 ≤ n → (p d : ℕ) (h : Held) → AcceptedBy temperatureProperty p d h → IsTemperature p d h → TemperatureClaim n p d h
+unfolding temperatureFrom
+temperature-claim n n-least p d h ok it = from-logs n n-least p d (ok .no-11) (it .logs) (it .taken) (it .weight) (it .kelvin) h (ok .no-12) (ok .no-13) (it .fits) (it .is)
+
+-- ---- entropy
+entropy-claim : (e d : ℕ) (h : Held) → AcceptedBy entropyProperty e d h → IsEntropy e d h → EntropyClaim e d h
+unfolding entropyIn
+entropy-claim e d h ok it = go (beyondEntropy l) refl (it .is)
+  where
+    l : Logs
+    l = it .logs
+
+    go : (a : Bool) → beyondEntropy l ≡ a → h ≡ cond a (judges 12 letterS l Unfitted) (shows letterS l Unfitted Unjoined (entropyOf (l .y) (l .z))) → EntropyClaim e d h
+    go true e₁ is = absurd (no-true e₁ (subst (λ (x : Held). T (not (refusesLogs entropyProperty (x .logs)))) is (ok .no-12)))
+    go false e₁ is =
+        subst (EntropyClaim e d) (sym is)
+        (record {
+          logs = l;
+          value = entropyOf (l .y) (l .z);
+          no-refusal = refl;
+          letter = refl;
+          carries = refl;
+          shows = refl;
+          taken = it .taken;
+          near = entropy-near (l .y) (l .z) (record { density = y-range d (l .y) (ok .no-11) (it .taken .y); least = z-least e (l .z) (ok .no-10) (it .taken .z); most = is-false e₁ });
+        })
+
+-- ---- any kind: what a new one proves
+pub record Sound (k : Property) : Type 1 where
+  pub claim : (n : ℕ) → 128 ≤ n → (v w : ℕ) (h : Held) → AcceptedBy k v w h → k .Is v w h → k .Claim n v w h
+  pub no-refusal : (n v w : ℕ) (h : Held) → k .Claim n v w h → h .number ≡ 0
+
+abbrev SoundAny : Option Property → Type 1
+SoundAny none = Unit
+SoundAny (some k) = Sound k
+
+sound : (k : Kind) → SoundAny (propertyOf k)
+sound Temperature = record { claim = temperature-claim; no-refusal = λ n v w h c. c .no-refusal }
+sound Entropy = record { claim = λ n m. entropy-claim; no-refusal = λ n v w h c. c .no-refusal }
+sound Unknown = tt
+
+claim-any : (n : ℕ) → 128 ≤ n → (k : Option Property) → SoundAny k → (v w : ℕ) (h : Held) → AcceptedAny k v w h → IsHeld k v w h → ClaimAny n k v w h
+claim-any n m none s v w h ok it = absurd ok
+claim-any n m (some k) s v w h ok it =
+    s .claim n m v w h ok
+    (first-of (k .isSecond w) (k .Is v w h) (h ≡ refuses (k .secondNumber)) (ok .no-11)
+    (first-of (k .isFirst v) (Either (k .isSecond w) (k .Is v w h) (h ≡ refuses (k .secondNumber))) (h ≡ refuses 10) (ok .no-10) it))
+
+no-refusal-any : (n : ℕ) (k : Option Property) → SoundAny k → (v w : ℕ) (h : Held) → ClaimAny n k v w h → h .number ≡ 0
+no-refusal-any n none s v w h c = absurd c
+no-refusal-any n (some k) s v w h c = s .no-refusal n v w h c
+
+-- an accepted state's answer is accurate, for every number of terms from 128 up
+pub accurate : (n : ℕ) → 128 ≤ n → (kind first second : ℕ) (a : Answer) → Accepted kind first second a → IsAnswer kind first second a → Accurate n kind first second a
+unfolding Accepted IsAnswer Accurate
+accurate n m kind first second a ok it = claim-any n m (propertyOf (kindOf kind)) (sound (kindOf kind)) first second (held a) ok it
+
+-- what is accurate for some number of terms is no refusal
+pub no-refusal : (n kind first second : ℕ) (a : Answer) → Accurate n kind first second a → held a .number ≡ 0
+unfolding Accurate
+no-refusal n kind first second a c = no-refusal-any n (propertyOf (kindOf kind)) (sound (kindOf kind)) first second (held a) c

@@ -1,0 +1,64 @@
+-- Demand 3's claims on one answer, for n series terms.
+use mathlib.Core.Option.{some}
+use mathlib.Core.Path.{_≡_}
+use Prim.Native.Nat.{ℕ}
+use lib.Dec.{T}
+use lib.IntN.{ℤ, pos, _+ℤ_, _-ℤ_}
+use lib.Signed.{_≤ℤ_, _<ℤ_}
+use Rattle.fraction.specs.Fraction.{Fraction, Within, over, floor}
+use Rattle.fraction.specs.Tens.{Above, Below}
+use Rattle.perfect.specs.Perfect.{perfectGas}
+use Rattle.air.specs.declared.Logs.{Logs}
+use Rattle.air.specs.declared.Edge.{Edge}
+use Rattle.air.specs.declared.Edges.the-variants.{One}
+use Rattle.air.specs.Quantities.{T0}
+use Rattle.air.specs.Held.{Held}
+use Rattle.air.specs.Temperature.{letterT, TemperatureLogs}
+use Rattle.air.specs.Entropy.{letterS, EntropyLogs}
+use Rattle.air.specs.Exact.{exactTemperatureFit, exactEntropy}
+
+-- how far a fitted temperature's exponent may be from the exact fit, in units of 10^-10
+abbrev pub fitDistance : ℕ
+fitDistance = 10000
+
+-- how far an entropy may be from the exact one, in units of 0.0001
+abbrev pub entropyDistance : ℕ
+entropyDistance = 3
+
+-- k of demand 3: the whole millionths of an exact fit, rounded down; a millionth is 10,000 units
+abbrev pub exactMillionths : Fraction → ℤ
+exactMillionths f = floor (over 10000 f)
+
+-- the millionth power of t / T0 strictly between ten to k - 2 and ten to k + 3
+pub record Between (k : ℤ) (t : ℕ) : Type 0 where
+  pub above : Above (k -ℤ pos 2) 1000000 t T0
+  pub below : Below (k +ℤ pos 3) 1000000 t T0
+
+-- a fitted temperature: its carried exponent beside the exact fit, and its value
+pub record FitClaim (n : ℕ) (l : Logs) (h : Held) (t : ℕ) : Type 0 where
+  pub edge : Edge
+  pub carries : h .edges ≡ One edge
+  pub near : Within fitDistance (edge .fit) (exactTemperatureFit n (l .y) (l .z))
+  pub between : Between (exactMillionths (exactTemperatureFit n (l .y) (l .z))) t
+
+-- a temperature is fitted where its carried Z is above 250,000
+pub record TemperatureClaim (n p d : ℕ) (h : Held) : Type 0 where
+  pub logs : Logs
+  pub kelvin : ℕ
+  pub no-refusal : h .number ≡ 0
+  pub letter : h .letter ≡ letterT
+  pub carries : h .logs ≡ some logs
+  pub shows : h .value ≡ some (pos kelvin)
+  pub taken : TemperatureLogs p d logs
+  pub perfect : (logs .z) ≤ℤ pos 250000 → kelvin ≡ perfectGas p d
+  pub fitted : pos 250000 <ℤ (logs .z) → FitClaim n logs h kelvin
+
+pub record EntropyClaim (e d : ℕ) (h : Held) : Type 0 where
+  pub logs : Logs
+  pub value : ℤ
+  pub no-refusal : h .number ≡ 0
+  pub letter : h .letter ≡ letterS
+  pub carries : h .logs ≡ some logs
+  pub shows : h .value ≡ some value
+  pub taken : EntropyLogs e d logs
+  pub near : Within entropyDistance value (exactEntropy (logs .y) (logs .z))

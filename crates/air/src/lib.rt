@@ -1,0 +1,61 @@
+// A state of equilibrium air: what its answer is. Definitions and theorems; crates above work it out.
+ghost use mathlib.Core.Path.{_≡_};
+ghost use Rattle.air.specs.Quantities.{within};
+
+// The logarithms that an answer carries, in whole millionths: y and z, and with `triple` also x, which is 0 elsewhere.
+pub struct Logs {
+    pub triple: bool,
+    pub x: i64,
+    pub y: i64,
+    pub z: i64,
+}
+
+// A fit: its value G and the weight W that it was worked out with, in units of 10^-10.
+pub struct Edge {
+    pub fit: i64,
+    pub weight: i64,
+}
+
+// The fits that an answer carries: none, one, or in a join the lower and the upper edge's.
+pub enum Edges {
+    Unfitted,
+    One(Edge),
+    Two(Edge, Edge),
+}
+
+// The values at a join's two edges.
+pub enum Ends {
+    Unjoined,
+    Both(i64, i64),
+}
+
+// The answer for a state. A letter says what was asked: T or S.
+pub enum Answer {
+    // The number alone.
+    Refused(u32),
+    // A refusal with what it was judged by: 12, 13.
+    Judged {
+        number: u32,
+        letter: u8,
+        logs: Logs,
+        edges: Edges,
+    },
+    // A value.
+    Shows {
+        letter: u8,
+        logs: Logs,
+        edges: Edges,
+        ends: Ends,
+        value: i64,
+    },
+}
+
+// Whether a number lies in a range.
+pub fn within(least: u64, most: u64, n: u64) -> bool
+    ensures { λ r. ⌜ r ≡ within least most n ⌝ }
+{
+    if n < least {
+        return false;
+    }
+    n <= most
+}

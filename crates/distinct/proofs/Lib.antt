@@ -1,0 +1,5 @@
+pub mod Names
+pub mod Pairs
+pub mod Store
+pub mod Table
+pub mod Walk

@@ -1,0 +1,44 @@
+-- Chained hashing of names: what the functions behind `repeats` promise each other.
+-- Record j of the list of starts is linked by the number j + 1; the link 0 ends a chain.
+use mathlib.Core.Bool.{Bool, true, false}
+use mathlib.Core.List.{List, [], _∷_}
+use mathlib.Core.Path.{_≡_}
+use Prim.Native.Nat.{ℕ, suc, _+_, _*_, _/_, _%_, _≤_, _<_}
+use lib.ListN.{getD}
+use Rattle.octets.specs.Bytes.{same}
+use Rattle.distinct.specs.Distinct.{nameAt}
+
+-- each byte is added, and the sum multiplied by an odd number near 2^32 over the golden ratio, modulo 2^32
+unfoldable pub hashFrom : ℕ → List ℕ → ℕ
+hashFrom h [] = h
+hashFrom h (b ∷ bs) = hashFrom ((h + b) * 2654435769 % 4294967296) bs
+
+-- the chain of a name, one of 4,096: the high 12 of 32 bits
+unfoldable pub hashOf : List ℕ → ℕ
+hashOf name = hashFrom 0 name / 1048576
+
+-- record j is met on the way from a link
+pub data Reaches (next : List ℕ) : ℕ → ℕ → Type 0 where
+  here : {j : ℕ} → Reaches next (suc j) j
+  there : {k j : ℕ} → Reaches next (getD next k 0) j → Reaches next (suc k) j
+
+-- a record's link goes to an earlier record, or ends the chain
+abbrev pub Falling : List ℕ → Type 0
+Falling next = (j : ℕ) → getD next j 0 ≤ j
+
+-- the name of record j
+abbrev pub nameOf : List ℕ → List ℕ → ℕ → List ℕ
+nameOf s starts j = nameAt s (getD starts j 0)
+
+-- whether record j has a name
+abbrev pub hasName : List ℕ → List ℕ → List ℕ → ℕ → Bool
+hasName s starts name j = same (nameOf s starts j) name
+
+-- no record on the way from a link has the name
+abbrev pub Missed : List ℕ → List ℕ → List ℕ → List ℕ → ℕ → Type 0
+Missed s starts next name k = (j : ℕ) → Reaches next k j → hasName s starts name j ≡ false
+
+-- a walk from a link: either it meets a record with the name, or there is none on the way
+pub data Walked (s starts next name : List ℕ) (from : ℕ) : Bool → Type 0 where
+  met : (j : ℕ) → j < from → hasName s starts name j ≡ true → Walked s starts next name from true
+  missed : Missed s starts next name from → Walked s starts next name from false

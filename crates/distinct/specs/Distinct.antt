@@ -1,0 +1,28 @@
+-- Whether two records of a sheet have the same name. A record is given by its start, the place of its length byte.
+use mathlib.Core.Bool.{Bool, true, false, _||_}
+use mathlib.Core.List.{List, [], _∷_}
+use Prim.Native.Nat.{ℕ, _+_, _≤_, _<_}
+use lib.ListN.{length, getD}
+use Rattle.octets.specs.Bytes.{part, same}
+
+-- document 01, State sheet, a record: the name whose length byte stands at a place
+abbrev pub nameAt : List ℕ → ℕ → List ℕ
+nameAt s p = part s (p + 1) (getD s p 0)
+
+-- the length byte at a place and the name after it lie in the sheet
+abbrev pub NameFits : List ℕ → ℕ → Type 0
+NameFits s p = p + 1 + getD s p 0 ≤ length s
+
+-- so it is at each of the first n starts
+abbrev pub NamesFit : List ℕ → List ℕ → ℕ → Type 0
+NamesFit s starts n = (i : ℕ) → i < n → NameFits s (getD starts i 0)
+
+-- whether a record of the list has this name
+abbrev pub seenIn : List ℕ → List ℕ → List ℕ → Bool
+seenIn s [] name = false
+seenIn s (p ∷ ps) name = same name (nameAt s p) || seenIn s ps name
+
+-- document 01, State sheet and refusal 16: whether two records of the list have the same name
+abbrev pub repeats : List ℕ → List ℕ → Bool
+repeats s [] = false
+repeats s (p ∷ ps) = seenIn s ps (nameAt s p) || repeats s ps

@@ -1,0 +1,98 @@
+-- What the steps of an entropy's answer amount to, over the definitions.
+use mathlib.Core.Bool.{Bool, true, false, _&&_, _||_, cond}
+use mathlib.Core.Path.{_≡_, refl, sym, ap, _∙_, subst}
+use Prim.Native.Nat.{ℕ, _+_, _*_, _^_, _≤_, _<_}
+use native.Mathlib.Omega.{arith}
+use lib.Dec.{T, leb, leb→le, lit≤}
+use lib.IntN.{ℤ, pos, negsuc, natAbs, _+ℤ_, _-ℤ_}
+use lib.Signed.{_≤ℤ_, _<ℤ_, ltZ, leZ-yes, ltZ-yes}
+use Rattle.integer.specs.Z.{<→, →≤}
+use Rattle.integer.specs.Laws.{apart}
+use Rattle.integer.specs.Tests.{is-true}
+use Rattle.logarithm.specs.Log.{IsLog}
+use Rattle.logarithm.proofs.Range.{log-least, log-most}
+use Rattle.fit.specs.Range.{Between}
+use Rattle.fit.specs.Fit.{straight}
+use Rattle.tgas.specs.declared.Strip.{Strip}
+use Rattle.tgas.specs.declared.Strip.the-variants.{Clear}
+use Rattle.tgas.specs.declared.Strip.the-variants as strip
+use Rattle.tgas.specs.Bands.{lowEdge, highEdge, inside, pickStrip, stripOf}
+use Rattle.air.specs.declared.Logs.{Logs}
+use Rattle.air.specs.declared.Edges.the-variants.{Unfitted}
+use Rattle.air.specs.declared.Ends.the-variants.{Unjoined}
+use Rattle.air.specs.Quantities.{D0, E0, isEnergy, isDensity}
+use Rattle.air.specs.Held.{Held, judges, shows}
+use Rattle.air.specs.Entropy.{letterS, entropyAt, aboveLimit, entropyIn}
+use Rattle.air.proofs.Tests.{and-left, and-right}
+use Rattle.air.proofs.Claims.{y-most}
+use Rattle.entropy.specs.Ready.{PlaceReady, JoinReady}
+
+-- ---- the answer outside a strip and inside one
+module _ (l : Logs) where
+  pub beyond-clear : aboveLimit (l .y) (l .z) ≡ true → judges 12 letterS l Unfitted ≡ entropyIn Clear l
+  unfolding entropyIn
+  beyond-clear e = ap (λ (b : Bool). cond b (judges 12 letterS l Unfitted) (shows letterS l Unfitted Unjoined (entropyAt (l .y) (l .z)))) (sym e)
+
+  pub shown-clear : (s : ℤ) → aboveLimit (l .y) (l .z) ≡ false → s ≡ entropyAt (l .y) (l .z) → shows letterS l Unfitted Unjoined s ≡ entropyIn Clear l
+  unfolding entropyIn
+  shown-clear s e h =
+      ap (shows letterS l Unfitted Unjoined) h
+      ∙ ap (λ (b : Bool). cond b (judges 12 letterS l Unfitted) (shows letterS l Unfitted Unjoined (entropyAt (l .y) (l .z)))) (sym e)
+
+  module _ (a b : ℤ) where
+    verdict : Bool → Held
+    verdict t = cond t (judges 12 letterS l Unfitted) (shows letterS l Unfitted Unjoined (straight a b (entropyAt a (l .z)) (entropyAt b (l .z)) (l .y)))
+
+    pub beyond-low : aboveLimit a (l .z) ≡ true → judges 12 letterS l Unfitted ≡ entropyIn (strip.Between a b) l
+    unfolding entropyIn verdict
+    beyond-low e = ap (λ (t : Bool). verdict (t || aboveLimit b (l .z))) (sym e)
+
+    pub beyond-high : aboveLimit a (l .z) ≡ false → aboveLimit b (l .z) ≡ true → judges 12 letterS l Unfitted ≡ entropyIn (strip.Between a b) l
+    unfolding entropyIn verdict
+    beyond-high e f = ap (λ (t : Bool). verdict t) (sym f) ∙ ap (λ (t : Bool). verdict (t || aboveLimit b (l .z))) (sym e)
+
+    pub shown-join : (s : ℤ) → aboveLimit a (l .z) ≡ false → aboveLimit b (l .z) ≡ false → s ≡ straight a b (entropyAt a (l .z)) (entropyAt b (l .z)) (l .y)
+        → shows letterS l Unfitted Unjoined s ≡ entropyIn (strip.Between a b) l
+    unfolding entropyIn verdict
+    shown-join s e f h =
+        ap (shows letterS l Unfitted Unjoined) h ∙ ap (λ (t : Bool). verdict t) (sym f) ∙ ap (λ (t : Bool). verdict (t || aboveLimit b (l .z))) (sym e)
+
+-- ---- a strip's edges
+lt-le : {p q : ℤ} → p <ℤ q → p ≤ℤ q
+lt-le h = →≤ (omega (arith, <→ h))
+
+edges : (p q y z : ℤ) → ltZ p y && ltZ y q ≡ true → natAbs p ≤ 7000000 → natAbs q ≤ 7000000 → natAbs z ≤ 5000000 → p <ℤ q → JoinReady p q y z
+edges p q y z e hp hq hz h =
+    record {
+      between = record { apart = h; low = lt-le (ltZ-yes (and-left (ltZ p y) (ltZ y q) (is-true e))); high = lt-le (ltZ-yes (and-right (ltZ p y) (ltZ y q) (is-true e))) };
+      low = record { y-most = hp; z-most = hz };
+      high = record { y-most = hq; z-most = hz };
+    }
+
+pub strip-ready : (y z : ℤ) {a b : ℤ} → natAbs z ≤ 5000000 → stripOf y ≡ strip.Between a b → JoinReady a b y z
+strip-ready y z {a} {b} hz e = go (inside lowEdge 25000 y) (inside highEdge 5000 y) refl refl e
+  where
+    go : (p q : Bool) → inside lowEdge 25000 y ≡ p → inside highEdge 5000 y ≡ q
+        → pickStrip p (strip.Between (lowEdge -ℤ pos 25000) (lowEdge +ℤ pos 25000)) (pickStrip q (strip.Between (highEdge -ℤ pos 5000) (highEdge +ℤ pos 5000)) Clear) ≡ strip.Between a b
+        → JoinReady a b y z
+    go true q h k s =
+        let ea : negsuc 4524999 ≡ a = cc in
+        let eb : negsuc 4474999 ≡ b = cc in
+        subst (λ (v : ℤ). JoinReady v b y z) ea (subst (λ (v : ℤ). JoinReady (negsuc 4524999) v y z) eb
+        (edges (negsuc 4524999) (negsuc 4474999) y z h (lit≤ tt) (lit≤ tt) hz (ltZ-yes tt)))
+    go false true h k s =
+        let ea : negsuc 504999 ≡ a = cc in
+        let eb : negsuc 494999 ≡ b = cc in
+        subst (λ (v : ℤ). JoinReady v b y z) ea (subst (λ (v : ℤ). JoinReady (negsuc 504999) v y z) eb
+        (edges (negsuc 504999) (negsuc 494999) y z k (lit≤ tt) (lit≤ tt) hz (ltZ-yes tt)))
+    go false false h k s = let f : _≡_ {A = ℕ} 0 1 = cc in absurd (omega arith)
+
+-- ---- the logarithms of an energy and a density in range
+pub place-ready : (e d : ℕ) (y z : ℤ) → T (isEnergy e) → T (isDensity d) → IsLog d D0 y → IsLog e E0 z → PlaceReady y z
+place-ready e d y z te td hy hz =
+    let a : 7840840 ≤ e = leb→le 7840840 e (and-left (leb 7840840 e) (leb e 1000000000000) te) in
+    let b : e ≤ 1000000000000 = leb→le e 1000000000000 (and-right (leb 7840840 e) (leb e 1000000000000) te) in
+    record {
+      y-most = y-most d y td hy;
+      z-most = apart z 5000000 (omega (arith, log-most e E0 5 z (omega arith) hz)) (omega (arith, log-least e E0 1 z (omega arith) hz));
+    }

@@ -1,0 +1,132 @@
+// Entropy of an energy and a density.
+use air::Answer;
+use air::Edges;
+use air::Ends;
+use air::Logs;
+use tgas::Strip;
+ghost use mathlib.Core.Path.{_≡_};
+ghost use mathlib.Core.Option.{some};
+ghost use Rattle.air.specs.declared.Edges.the-variants.{Unfitted};
+ghost use Rattle.air.specs.declared.Ends.the-variants.{Unjoined};
+ghost use Rattle.tgas.specs.declared.Strip.the-variants.{Clear, Between};
+ghost use Rattle.air.specs.Held.{held, judges, shows};
+ghost use Rattle.air.specs.Entropy.{letterS, rise, entropyAt, aboveLimit, entropyIn, entropyFrom};
+ghost use Rattle.air.specs.Choices.{chosen};
+ghost use Rattle.air.specs.State.{entropyProperty, heldBy};
+ghost use Rattle.entropy.specs.Ready.{PlaceReady, JoinReady};
+
+// m of the perfect entropy.
+fn rise(y: i64, z: i64) -> i64
+    requires { ⌜ PlaceReady y z ⌝ }
+    ensures { λ r. ⌜ r ≡ rise y z ⌝ }
+{
+    5 * (z - 400000) - 2 * y
+}
+
+// The entropy at a place, with no join.
+fn entropy_at(y: i64, z: i64) -> i64
+    requires { ⌜ PlaceReady y z ⌝ }
+    ensures { λ r. ⌜ r ≡ entropyAt y z ⌝ }
+{
+    if z <= 650000 {
+        return 67792004 + fit::entropy_rise(rise(y, z));
+    }
+    let band = tgas::band_of(y);
+    fit::entropy_of_fit(fit::bicubic(tgas::entropy::entropy_bicubic(band), y, z))
+}
+
+// Refusal 12 of an entropy.
+fn beyond(logs: Logs) -> Answer
+    ensures { λ r. ⌜ held r ≡ judges 12 letterS logs Unfitted ⌝ }
+{
+    Answer::Judged {
+        number: 12,
+        letter: b'S',
+        logs,
+        edges: Edges::Unfitted,
+    }
+}
+
+// An entropy's answer.
+fn shown(logs: Logs, value: i64) -> Answer
+    ensures { λ r. ⌜ held r ≡ shows letterS logs Unfitted Unjoined value ⌝ }
+{
+    Answer::Shows {
+        letter: b'S',
+        logs,
+        edges: Edges::Unfitted,
+        ends: Ends::Unjoined,
+        value,
+    }
+}
+
+// Whether Z is above the limit of the band of Y.
+fn above_limit(y: i64, z: i64) -> bool
+    ensures { λ r. ⌜ r ≡ aboveLimit y z ⌝ }
+{
+    tgas::entropy::entropy_limit(tgas::band_of(y)) < z
+}
+
+// An entropy's answer outside the strips.
+fn unjoined(logs: Logs) -> Answer
+    requires { ⌜ PlaceReady (logs .y) (logs .z) ⌝ }
+    ensures { λ r. ⌜ held r ≡ entropyIn Clear logs ⌝ }
+{
+    let y = logs.y;
+    let z = logs.z;
+    if above_limit(y, z) {
+        return beyond(logs);
+    }
+    shown(logs, entropy_at(y, z))
+}
+
+// An entropy's answer inside a strip, by its value at both edges.
+fn joined(logs: Logs, a: i64, b: i64) -> Answer
+    requires { ⌜ JoinReady a b (logs .y) (logs .z) ⌝ }
+    ensures { λ r. ⌜ held r ≡ entropyIn (Between a b) logs ⌝ }
+{
+    let y = logs.y;
+    let z = logs.z;
+    if above_limit(a, z) {
+        return beyond(logs);
+    }
+    if above_limit(b, z) {
+        return beyond(logs);
+    }
+    shown(
+        logs,
+        fit::straight(a, b, entropy_at(a, z), entropy_at(b, z), y),
+    )
+}
+
+// An entropy's answer from its logarithms.
+fn entropy_from(logs: Logs) -> Answer
+    requires { ⌜ PlaceReady (logs .y) (logs .z) ⌝ }
+    ensures { λ r. ⌜ held r ≡ entropyFrom logs ⌝ }
+{
+    let y = logs.y;
+    match tgas::strip_of(y) {
+        Strip::Clear => unjoined(logs),
+        Strip::Between(a, b) => joined(logs, a, b),
+    }
+}
+
+// Entropy from an energy and a density of any size.
+pub fn entropy(e: u64, d: u64) -> Answer
+    ensures { λ r. ⌜ held r ≡ heldBy chosen (some entropyProperty) e d ⌝ }
+{
+    if !air::within(7840840, 1000000000000, e) {
+        return Answer::Refused(10);
+    }
+    if !air::within(12920, 129200000000000, d) {
+        return Answer::Refused(11);
+    }
+    let y = logarithm::log10_ratio(d, 129200000000);
+    let z = logarithm::log10_ratio(e, 78408400);
+    entropy_from(Logs {
+        triple: false,
+        x: 0,
+        y,
+        z,
+    })
+}

@@ -1,0 +1,56 @@
+-- `evaluate::evaluate` follows the kind.
+use mathlib.Core.Path.{_≡_, sym, ap, _∙_}
+use borrow.Author.Needs.{needs}
+use Rattle.kind.specs.declared.Kind.{Kind}
+use Rattle.air.specs.Choices.{chosen}
+use Rattle.air.specs.State.{propertyOf, heldBy, answerBy}
+use Rattle.evaluate.proofs.evaluate.Statement.{statement}
+use Rattle.evaluate.proofs.evaluate.Tie as tie
+use Rattle.evaluate.proofs.evaluate.Reads as reads
+use Rattle.evaluate.proofs.evaluate.Lts as lts
+
+by-kind : (c : tie.After-kind-of) (k : Kind) → c .kind-of .result ≡ k → let s = c .before in
+    heldBy chosen (propertyOf k) (s .args .first) (s .args .second) ≡ answerBy chosen (s .args .kind) (s .args .first) (s .args .second)
+unfolding answerBy
+by-kind c k e = ap (λ (x : Kind). heldBy chosen (propertyOf x) (c .before .args .first) (c .before .args .second)) (sym e ∙ c .kind-of .ensures)
+
+kind-of-requires : tie.Need-kind-of-requires
+kind-of-requires c κs = search needs
+
+enum-told : tie.Need-enum-told
+enum-told c = search needs
+
+temperature-requires : tie.Need-temperature-requires
+temperature-requires c κs = search needs
+
+enum-told-2 : tie.Need-enum-told-2
+enum-told-2 c = search needs
+
+entropy-requires : tie.Need-entropy-requires
+entropy-requires c κs = search needs
+
+enum-told-3 : tie.Need-enum-told-3
+enum-told-3 c = search needs
+
+returns : tie.Need-returns
+returns c = c .temperature .ensures ∙ by-kind (c .before .before .before) _ (c .before .enum-told .given .1)
+
+returns-2 : tie.Need-returns-2
+returns-2 c = c .entropy .ensures ∙ by-kind (c .before .before .before) _ (c .before .enum-told2 .given .1)
+
+returns-3 : tie.Need-returns-3
+returns-3 c = by-kind (c .before .before) _ (c .enum-told3 .given .1)
+
+pub evaluate-spec : {M : Type 1} → statement M
+evaluate-spec =
+    tie.close
+    (tie.spec
+    kind-of-requires
+    enum-told
+    temperature-requires
+    enum-told-2
+    entropy-requires
+    enum-told-3
+    returns
+    returns-2
+    returns-3)

@@ -1,0 +1,120 @@
+// The fit engine in 64 bits: mul, the bicubic, the exponent, G and the straight line of a join.
+// Every quotient is rounded toward minus infinity; a product that would leave 64 bits is split first.
+ghost use mathlib.Core.Path.{_≡_};
+ghost use Prim.Native.Nat.{_*_, _^_};
+ghost use lib.IntN.{pos, natAbs, _+ℤ_, _*ℤ_};
+ghost use lib.Signed.{shrZ, _≤ℤ_, _<ℤ_};
+ghost use Rattle.weight.specs.Weight.{units};
+ghost use Rattle.fit.specs.Range.{In, AllIn, Splits, Between};
+ghost use Rattle.fit.specs.Fit.{mul, bicubic, exponent, straight};
+
+// a / m.
+fn floor_div(a: i64, m: i64) -> i64
+    requires { ⌜ pos 0 <ℤ m ⌝ }
+    ensures { λ r. ⌜ r ≡ shrZ a (natAbs m) ⌝ }
+{
+    if a < 0 { -1 - (-1 - a) / m } else { a / m }
+}
+
+// a * b / m.
+fn mul_div(a: i64, b: i64, m: i64) -> i64
+    requires { ⌜ Splits a b m ⌝ }
+    ensures { λ r. ⌜ r ≡ shrZ (a *ℤ b) (natAbs m) ⌝ }
+{
+    let h = floor_div(a, m);
+    let l = a - h * m;
+    h * b + floor_div(l * b, m)
+}
+
+// a * b / 1,000,000.
+pub fn mul(a: i64, b: i64) -> i64
+    requires { ⌜ (In 57 a) × (In 25 b) ⌝ }
+    ensures { λ r. ⌜ r ≡ mul a b ⌝ }
+{
+    mul_div(a, b, 1000000)
+}
+
+// a + bY.
+fn linear(a: i64, b: i64, y: i64) -> i64
+    requires { ⌜ (In 44 a) × ((In 44 b) × (In 25 y)) ⌝ }
+    ensures { λ r. ⌜ r ≡ a +ℤ mul b y ⌝ }
+{
+    a + mul(b, y)
+}
+
+// (a + bY)Z.
+fn linear_by(a: i64, b: i64, y: i64, z: i64) -> i64
+    requires { ⌜ (In 44 a) × ((In 44 b) × ((In 25 y) × (In 25 z))) ⌝ }
+    ensures { λ r. ⌜ r ≡ mul (a +ℤ mul b y) z ⌝ }
+{
+    mul(linear(a, b, y), z)
+}
+
+// (a + bY + cZ)ZZ.
+fn linear_by_square(a: i64, b: i64, c: i64, y: i64, z: i64) -> i64
+    requires { ⌜ (In 44 a) × ((In 44 b) × ((In 44 c) × ((In 25 y) × (In 25 z)))) ⌝ }
+    ensures { λ r. ⌜ r ≡ mul (mul (a +ℤ mul b y +ℤ mul c z) z) z ⌝ }
+{
+    mul(mul(linear(a, b, y) + mul(c, z), z), z)
+}
+
+// The bicubic of ten coefficients.
+pub fn bicubic(k: [i64; 10], y: i64, z: i64) -> i64
+    requires { ⌜ (AllIn 44 k) × ((In 25 y) × (In 25 z)) ⌝ }
+    ensures { λ r. ⌜ r ≡ bicubic k y z ⌝ }
+{
+    linear(k[0], k[1], y)
+        + linear_by(k[2], k[3], y, z)
+        + linear_by_square(k[4], k[5], k[6], z, y)
+        + linear_by_square(k[7], k[8], k[9], y, z)
+}
+
+// The exponent of four terms.
+pub fn exponent(c: [i64; 4], y: i64, z: i64) -> i64
+    requires { ⌜ (AllIn 44 c) × ((In 25 y) × (In 25 z)) ⌝ }
+    ensures { λ r. ⌜ r ≡ exponent c y z ⌝ }
+{
+    linear(c[0], c[1], y) + mul(c[2], z) + mul(mul(c[3], y), z)
+}
+
+// W * B / 10^10: B is split by 10^10 and what is left of it is divided twice by 10^5.
+pub fn scaled(w: i64, b: i64) -> i64
+    requires { ⌜ (pos 0 ≤ℤ w) × ((w ≤ℤ pos units) × (In 57 b)) ⌝ }
+    ensures { λ r. ⌜ r ≡ shrZ (w *ℤ b) units ⌝ }
+{
+    let h = floor_div(b, 10000000000);
+    let l = b - h * 10000000000;
+    h * w + floor_div(mul_div(w, l, 100000), 100000)
+}
+
+// G where there is a second bicubic, of the two bicubics' values and the weight.
+pub fn fitted(a: i64, w: i64, b: i64) -> i64
+    requires { ⌜ (In 57 a) × ((pos 0 ≤ℤ w) × ((w ≤ℤ pos units) × (In 57 b))) ⌝ }
+    ensures { λ r. ⌜ r ≡ a +ℤ shrZ (w *ℤ b) units ⌝ }
+{
+    a + scaled(w, b)
+}
+
+// The straight line from low at a to high at b.
+pub fn straight(a: i64, b: i64, low: i64, high: i64, y: i64) -> i64
+    requires { ⌜ (Between a b y) × ((In 25 a) × ((In 25 b) × ((In 57 low) × (In 57 high)))) ⌝ }
+    ensures { λ r. ⌜ r ≡ straight a b low high y ⌝ }
+{
+    low + mul_div(high - low, y - a, b - a)
+}
+
+// 28,706 * n / 10^8: a fit value n of the entropy over R, in units of 0.0001 J/(kg K).
+pub fn entropy_of_fit(n: i64) -> i64
+    requires { ⌜ In 57 n ⌝ }
+    ensures { λ r. ⌜ r ≡ shrZ (pos 28706 *ℤ n) (10 ^ 8) ⌝ }
+{
+    mul_div(n, 28706, 100000000)
+}
+
+// m * 28,706 * 2,302,585 / (2 * 10^10): the perfect gas's entropy above its base.
+pub fn entropy_rise(m: i64) -> i64
+    requires { ⌜ In 27 m ⌝ }
+    ensures { λ r. ⌜ r ≡ shrZ (m *ℤ pos 28706 *ℤ pos 2302585) (2 * 10 ^ 10) ⌝ }
+{
+    mul_div(66098005010, m, 20000000000)
+}

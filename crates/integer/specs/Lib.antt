@@ -1,0 +1,5 @@
+pub mod Z
+pub mod Laws
+pub mod Floor
+pub mod Ring
+pub mod Tests

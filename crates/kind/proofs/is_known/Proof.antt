@@ -1,0 +1,32 @@
+-- `kind::is_known` says whether the byte names a kind.
+use mathlib.Core.Path.{sym, ap, _∙_}
+use borrow.Author.Needs.{needs}
+use Rattle.kind.specs.Kind.{isKnown}
+use Rattle.kind.proofs.is_known.Statement.{statement}
+use Rattle.kind.proofs.is_known.Tie as tie
+
+kind-of-requires : tie.Need-kind-of-requires
+kind-of-requires c κs = search needs
+
+enum-told : tie.Need-enum-told
+enum-told c = search needs
+
+enum-told-2 : tie.Need-enum-told-2
+enum-told-2 c = search needs
+
+enum-told-3 : tie.Need-enum-told-3
+enum-told-3 c = search needs
+
+returns : tie.Need-returns
+returns c = sym (ap isKnown (c .enum-told .given .1)) ∙ ap isKnown (c .before .before .kind-of .ensures)
+
+returns-2 : tie.Need-returns-2
+returns-2 c = sym (ap isKnown (c .enum-told2 .given .1)) ∙ ap isKnown (c .before .before .kind-of .ensures)
+
+returns-3 : tie.Need-returns-3
+returns-3 c = sym (ap isKnown (c .enum-told3 .given .1)) ∙ ap isKnown (c .before .before .kind-of .ensures)
+
+pub is-known-spec : {M : Type 1} → statement M
+is-known-spec =
+    tie.close
+    (tie.spec kind-of-requires enum-told enum-told-2 enum-told-3 returns returns-2 returns-3)

@@ -1,0 +1,19 @@
+-- What a record asks for, by its kind byte. The one place that lists the kinds: a sheet's refusal 6 and a state's rest on it.
+use mathlib.Core.Bool.{Bool, true, false}
+use Prim.Native.Nat.{ℕ}
+use lib.Dec.{eqb}
+use Rattle.kind.specs.declared.Kind.{Kind}
+use Rattle.kind.specs.declared.Kind.the-variants.{Temperature, Entropy, Unknown}
+
+abbrev pub pickKind : Bool → Kind → Kind → Kind
+pickKind true a b = a
+pickKind false a b = b
+
+-- document 01, state sheet: 1 is pressure and density, 2 is energy and density
+abbrev pub kindOf : ℕ → Kind
+kindOf b = pickKind (eqb b 1) Temperature (pickKind (eqb b 2) Entropy Unknown)
+
+abbrev pub isKnown : Kind → Bool
+isKnown Temperature = true
+isKnown Entropy = true
+isKnown Unknown = false

@@ -1,0 +1,14 @@
+pub mod Table
+pub mod Powers
+pub mod Digits
+pub mod Mean
+pub mod Bounds
+pub mod Points
+pub mod Chords
+pub mod Leading
+pub mod Numbers
+pub mod Exponents
+pub mod Ratios
+pub mod Range
+pub mod Exact
+pub mod Quotient

@@ -1,0 +1,46 @@
+-- `logarithm::log10_ratio` meets its contract. Assumes nothing.
+use Prim.Native.Nat.{ℕ, _+_, _-_, _/_, _≤_}
+use native.Mathlib.Omega.{arith}
+use lib.IntN.{pos, _-ℤ_}
+use mir.Syntax.{w64}
+use mir.Val.{toZ, SFits}
+use mir.Facts.{toZ-ofZ}
+use mir.ValLaws.{toZ-pos}
+use borrow.Author.Needs.{needs}
+use Rattle.integer.specs.Laws.{mag-abs}
+use Rattle.logarithm.specs.Choice.{logOf}
+use Rattle.logarithm.proofs.Ratios.{lowered-small}
+use Rattle.logarithm.proofs.log10_ratio.Statement.{statement}
+use Rattle.logarithm.proofs.log10_ratio.Tie as tie
+
+lowered-fits : (g : ℕ) → g ≤ 40000000 → SFits w64 (toZ w64 g -ℤ pos 20000000)
+lowered-fits g h =
+    rw (toZ-pos w64 g (omega arith)) (record { sfits = omega (arith, mag-abs (pos g -ℤ pos 20000000), lowered-small g h) })
+
+lg-requires : tie.Need-lg-requires
+lg-requires c κs = search needs
+
+add-g : tie.Need-add-g
+add-g c = search needs
+
+lg-requires-2 : tie.Need-lg-requires-2
+lg-requires-2 c κs = search needs
+
+sub-g : tie.Need-sub-g
+sub-g c = search needs
+
+cast-result : tie.Need-cast-result
+cast-result c = search needs
+
+sub-result : tie.Need-sub-result
+sub-result c =
+    lowered-fits ((c .before .lg .result + 200000005000 - c .lg2 .result) / 10000) (omega (arith, c .before .lg .ensures .1))
+
+returns : tie.Need-returns
+unfolding logOf
+returns c =
+    rw (toZ-ofZ (sub-result c), toZ-pos w64 ((c .before .lg .result + 200000005000 - c .lg2 .result) / 10000) (omega (arith, c .before .lg .ensures .1)), c .before .lg .ensures .0, c .lg2 .ensures .0)
+
+pub log10-ratio-spec : {M : Type 1} → statement M
+log10-ratio-spec =
+    tie.close (tie.spec lg-requires add-g lg-requires-2 sub-g cast-result sub-result returns)

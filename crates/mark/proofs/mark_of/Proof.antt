@@ -1,0 +1,63 @@
+-- `mark::mark_of` is the mark of what the answer holds.
+use mathlib.Core.Path.{_≡_, sym, ap, _∙_, subst}
+use borrow.Author.Needs.{needs}
+use mir.Syntax.{w64}
+use mir.Facts.{toZ-ofZ}
+use mir.Val.{SFits, toZ, ofZ}
+use lib.IntN.{ℤ}
+use Rattle.air.specs.declared.Answer.{Answer}
+use Rattle.air.specs.Held.{held}
+use Rattle.mark.specs.declared.Mark.the-variants.{At}
+use Rattle.mark.specs.Mark.{markOf, DrawableFrom}
+use Rattle.mark.proofs.mark_of.Statement.{statement}
+use Rattle.mark.proofs.mark_of.Tie as tie
+use Rattle.mark.proofs.mark_of.Reads as reads
+use Rattle.mark.proofs.mark_of.Lts as lts
+use Rattle.mark.proofs.point_of.Reads as point-of-reads
+
+back : (z : ℤ) → SFits w64 z → toZ w64 (ofZ w64 z) ≡ z
+back z h = toZ-ofZ h
+
+enum-known-a : tie.Need-enum-known-a
+enum-known-a c = search needs
+
+enum-known-a-2 : tie.Need-enum-known-a-2
+enum-known-a-2 c = search needs
+
+enum-known-a-3 : tie.Need-enum-known-a-3
+enum-known-a-3 c = search needs
+
+point-of-requires : tie.Need-point-of-requires
+point-of-requires c κs =
+    let a = c .before .before in
+    let g = a .a3 .given .0 in
+    rw (back (g .1 .0 .y) (search needs), back (g .1 .1 .1 .1 .0) (search needs))
+    (subst (λ (x : Answer). DrawableFrom (held x .logs) (held x .value)) (a .a3 .given .1) (a .before .before .pre))
+
+returns : tie.Need-returns
+unfolding markOf
+returns c = sym (ap (λ (a : Answer). markOf (held a)) (c .before .a .given .1))
+
+returns-2 : tie.Need-returns-2
+unfolding markOf
+returns-2 c = sym (ap (λ (a : Answer). markOf (held a)) (c .before .a2 .given .1))
+
+returns-3 : tie.Need-returns-3
+unfolding markOf
+returns-3 c =
+    let a = c .before .before .before in
+    let g = a .a3 .given .0 in
+    ap At (rw (back (g .1 .0 .y) (search needs), back (g .1 .1 .1 .1 .0) (search needs)) at (c .point-of .ensures))
+    ∙ sym (ap (λ (x : Answer). markOf (held x)) (a .a3 .given .1))
+
+pub mark-of-spec : {M : Type 1} → statement M
+mark-of-spec =
+    tie.close
+    (tie.spec
+    enum-known-a
+    enum-known-a-2
+    enum-known-a-3
+    point-of-requires
+    returns
+    returns-2
+    returns-3)

@@ -1,0 +1,52 @@
+// Plot marks: a state's answer as a point of two doubles, or a blank.
+use air::Answer;
+ghost use mathlib.Core.Path.{_≡_};
+ghost use Rattle.air.specs.Held.{held};
+ghost use Rattle.mark.specs.Mark.{pointOf, markOf, Drawable, DrawableFrom};
+
+// Two doubles.
+#[repr(C)]
+pub struct Point {
+    pub across: f64,
+    pub up: f64,
+}
+
+// A point, or a blank with its refusal number.
+pub enum Mark {
+    At(Point),
+    Blank(u32),
+}
+
+// Where a value stands. Both doubles are exact.
+fn point_of(y: i64, v: i64) -> Point
+    requires { ⌜ Drawable y v ⌝ }
+    ensures { λ r. ⌜ r ≡ pointOf y v ⌝ }
+{
+    Point {
+        across: y as f64 + 7000000.0,
+        up: v as f64,
+    }
+}
+
+// The mark of an answer.
+pub fn mark_of(a: Answer) -> Mark
+    requires { ⌜ DrawableFrom (held a .logs) (held a .value) ⌝ }
+    ensures { λ r. ⌜ r ≡ markOf (held a) ⌝ }
+{
+    match a {
+        Answer::Refused(number) => Mark::Blank(number),
+        Answer::Judged {
+            number,
+            letter: _,
+            logs: _,
+            edges: _,
+        } => Mark::Blank(number),
+        Answer::Shows {
+            letter: _,
+            logs,
+            edges: _,
+            ends: _,
+            value,
+        } => Mark::At(point_of(logs.y, value)),
+    }
+}

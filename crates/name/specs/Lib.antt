@@ -1,0 +1,4 @@
+pub mod Spelling
+pub mod Name
+pub mod Scan
+pub mod Laws

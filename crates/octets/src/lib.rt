@@ -1,0 +1,31 @@
+// Bytes: definitions and laws that names, sheets and lines share.
+ghost use mathlib.Core.Path.{_≡_};
+ghost use lib.ListN.{length};
+ghost use Rattle.octets.specs.Room.{fitting, written, outcomeOf};
+
+// What became of a text: how many bytes it has, or the number of a refusal.
+pub enum Outcome {
+    Done(usize),
+    Refused(u32),
+}
+
+// A byte as a wider number: asks only for the index where it is read.
+pub fn wide(x: u8) -> u64 {
+    x as u64
+}
+
+// Copies a text to the start of lent room that is long enough for it.
+pub fn put(text: &[u8], out: &mut [u8]) -> Outcome
+    ensures { λ r. ⌜ r ≡ outcomeOf (fitting (length (now (out .entry))) (now (text .entry))) ⌝ }
+    ensures { λ _. ⌜ now (out .exit) ≡ written (fitting (length (now (out .entry))) (now (text .entry))) (now (out .entry)) ⌝ }
+{
+    if out.len() < text.len() {
+        return Outcome::Refused(14);
+    }
+    let mut i = 0;
+    while i < text.len() {
+        out[i] = text[i];
+        i += 1;
+    }
+    Outcome::Done(i)
+}

@@ -1,0 +1,148 @@
+-- A sheet's number from its header, its records' structure and their names; and what an accepted sheet gives a reader of its records.
+use mathlib.Core.Bool.{Bool, true, false, cond, not, _||_}
+use mathlib.Core.List.{List, [], _∷_}
+use mathlib.Core.Option.{none, some}
+use mathlib.Core.Path.{_≡_, refl, sym, ap, ap₂, _∙_}
+use Prim.Native.Nat.{ℕ, zero, suc, _+_, _-_, _≤_}
+use native.Mathlib.Omega.{arith}
+use borrow.Author.Tests.{eqb-true, ltb-false}
+use lib.Dec.{eqb, ltb}
+use lib.ListN.{length, getD, take, drop}
+use Rattle.distinct.specs.Distinct.{repeats}
+use Rattle.octets.specs.Bytes.{numberAt}
+use Rattle.sheet.specs.Layout.{plainLayout, layoutOf}
+use Rattle.sheet.specs.Sheet.{Fields, Front, bad, front, frontOf, past, recordAt, Sheet, refused, records, isMarked, withLayout, sheetBy, sheetOf, numberOf, Accepted}
+use Rattle.sheet.specs.Structure.{faultOf, entryAt, headFault, faultFrom, placesFrom, Walked}
+use Rattle.sheet.specs.declared.Record.{Record}
+use Rattle.sheet.proofs.Places.{or-false, fieldsAt, Sound, sound}
+use Rattle.sheet.proofs.Walk.{View, refuses, view, recordsFrom, twice, names, verdict, walk-verdict, repeats-names}
+
+-- the records of a sheet of version 1, and what ends their reading
+abbrev pub read : List ℕ → List Record
+read s = recordsFrom plainLayout s (numberAt 2 s 5) 7
+
+abbrev pub fault : List ℕ → ℕ
+fault s = faultFrom plainLayout s (numberAt 2 s 5) 7
+
+-- a sheet by its header and its verdict
+abbrev pub byHead : ℕ → Sheet → Sheet
+byHead zero v = v
+byHead (suc k) v = refused (suc k)
+
+pub sheet-verdict : (s : List ℕ) → sheetOf s ≡ byHead (headFault s) (verdict s (read s) (fault s))
+unfolding sheetBy headFault
+sheet-verdict s = long (ltb 65536 (length s))
+  where
+    laid : (b : Bool) → withLayout s (cond b (some plainLayout) none) ≡ byHead (cond b 0 3) (verdict s (read s) (fault s))
+    laid true = walk-verdict plainLayout s (numberAt 2 s 5) 7 [] refl
+    laid false = refl
+
+    marked : (b : Bool) → cond b (refused 2) (withLayout s (layoutOf (numberAt 2 s 3))) ≡ byHead (cond b 2 (cond (eqb (numberAt 2 s 3) 1) 0 3)) (verdict s (read s) (fault s))
+    marked true = refl
+    marked false = laid (eqb (numberAt 2 s 3) 1)
+
+    long : (b : Bool)
+        → cond b (refused 1) (cond (ltb (length s) 7 || not (isMarked s)) (refused 2) (withLayout s (layoutOf (numberAt 2 s 3))))
+        ≡ byHead (cond b 1 (cond (ltb (length s) 7 || not (isMarked s)) 2 (cond (eqb (numberAt 2 s 3) 1) 0 3))) (verdict s (read s) (fault s))
+    long true = refl
+    long false = marked (ltb (length s) 7 || not (isMarked s))
+
+number-verdict : (t : Bool) (rs : List Record) (k : ℕ) → numberOf (cond t (refused 16) (cond (eqb k 0) (records rs) (refused k))) ≡ cond t 16 k
+number-verdict true rs k = refl
+number-verdict false rs k = go (eqb k 0) refl
+  where
+    go : (b : Bool) → eqb k 0 ≡ b → numberOf (cond b (records rs) (refused k)) ≡ k
+    go true p = sym (eqb-true k 0 p)
+    go false p = refl
+
+-- the number of a sheet whose header is refused
+pub number-head : (s : List ℕ) → (headFault s ≡ 0 → ⊥) → numberOf (sheetOf s) ≡ headFault s
+number-head s h = ap numberOf (sheet-verdict s) ∙ go (headFault s) h
+  where
+    go : (k : ℕ) → (k ≡ 0 → ⊥) → numberOf (byHead k (verdict s (read s) (fault s))) ≡ k
+    go zero z = absurd (z refl)
+    go (suc k) z = refl
+
+-- the number of any other sheet: 16 where two of the records read share a name, else what ended their reading
+pub number-records : (s : List ℕ) → headFault s ≡ 0 → numberOf (sheetOf s) ≡ cond (twice (names s (read s))) 16 (fault s)
+number-records s h =
+    ap numberOf (sheet-verdict s ∙ ap (λ (k : ℕ). byHead k (verdict s (read s) (fault s))) h)
+    ∙ number-verdict (twice (names s (read s))) (read s) (fault s)
+
+-- a header that is not refused
+pub record Headed (s : List ℕ) : Type 0 where
+  pub most : length s ≤ 65536
+  pub least : 7 ≤ length s
+
+pub headed : (s : List ℕ) → headFault s ≡ 0 → Headed s
+unfolding headFault
+headed s e = long (ltb 65536 (length s)) refl e
+  where
+    short : (b : Bool) → (ltb (length s) 7 || not (isMarked s)) ≡ b → length s ≤ 65536 → _≡_ {A = ℕ} (cond b 2 (cond (eqb (numberAt 2 s 3) 1) 0 3)) 0 → Headed s
+    short true p m h = absurd (omega arith)
+    short false p m h = record { most = m; least = ltb-false (length s) 7 (or-false (ltb (length s) 7) (not (isMarked s)) p .0) }
+
+    long : (b : Bool) → ltb 65536 (length s) ≡ b → _≡_ {A = ℕ} (cond b 1 (cond (ltb (length s) 7 || not (isMarked s)) 2 (cond (eqb (numberAt 2 s 3) 1) 0 3))) 0 → Headed s
+    long true p h = absurd (omega arith)
+    long false p h = short (ltb (length s) 7 || not (isMarked s)) refl (ltb-false 65536 (length s) p) h
+
+-- an accepted sheet: its header, its records, all of them read to the end
+pub record Ready (s : List ℕ) : Type 0 where
+  pub head : Headed s
+  pub whole : fault s ≡ 0
+  pub is : sheetOf s ≡ records (read s)
+
+pub ready : (s : List ℕ) → Accepted s → Ready s
+ready s a = go (headFault s) refl
+  where
+    apart : (t : Bool) → twice (names s (read s)) ≡ t → headFault s ≡ 0 → cond t 16 (fault s) ≡ 0 → Ready s
+    apart true p z h = absurd (omega arith)
+    apart false p z h =
+        record {
+          head = headed s z;
+          whole = h;
+          is = sheet-verdict s ∙ rw (z, p, h);
+        }
+
+    go : (k : ℕ) → headFault s ≡ k → Ready s
+    go zero z = apart (twice (names s (read s))) refl z (sym (number-records s z) ∙ a)
+    go (suc k) z =
+        let n : headFault s ≡ 0 → ⊥ = λ e. omega arith in
+        let m : headFault s ≡ 0 = sym (number-head s n) ∙ a in
+        absurd (n m)
+
+-- at a place where records are left, an accepted sheet has a record, and goes on behind it
+pub record Ahead (s : List ℕ) (left at : ℕ) : Type 0 where
+  pub here : Sound s at
+  pub rest : faultFrom plainLayout s (left - 1) (at + 18 + getD s at 0) ≡ 0
+  pub is : recordsFrom plainLayout s left at ≡ entryAt s at ∷ recordsFrom plainLayout s (left - 1) (at + 18 + getD s at 0)
+
+pub ahead : (s : List ℕ) (left at : ℕ) → (left ≡ 0 → ⊥) → faultFrom plainLayout s left at ≡ 0 → Ahead s left at
+unfolding faultFrom recordsFrom
+ahead s zero at z e = absurd (z refl)
+ahead s (suc left) at z e = go (frontOf plainLayout (drop at s)) refl (view plainLayout (drop at s)) e
+  where
+    go : (t : Front) → frontOf plainLayout (drop at s) ≡ t → View (drop at s) t
+        → _≡_ {A = ℕ} (elim t as (λ x. ℕ) [ bad k ↦ k | front f ↦ faultFrom plainLayout s left (past at f) ]) 0 → Ahead s (suc left) at
+    go (bad k) p (refuses n) h = absurd (n h)
+    go (front f) p v h =
+        let o : Sound s at = sound s at (ap faultOf p) in
+        let g : suc left - 1 ≡ left = omega arith in
+        let q : at + 18 + getD s at 0 + 0 ≡ at + 18 + getD s at 0 = omega arith in
+        let w : f ≡ fieldsAt s at = cc (o .is) in
+        record {
+          here = o;
+          rest = ap₂ (faultFrom plainLayout s) g (sym q) ∙ ap (λ (x : Fields). faultFrom plainLayout s left (past at x)) (sym w) ∙ h;
+          is =
+              ap (λ (x : Front). elim x as (λ y. List Record) [ bad k ↦ [] | front x ↦ recordAt at x ∷ recordsFrom plainLayout s left (past at x) ]) (o .is)
+              ∙ ap₂ (λ (l a : ℕ). entryAt s at ∷ recordsFrom plainLayout s l a) (sym g) q;
+        }
+
+-- the number of a sheet, from a walk over its records
+pub number-walked : (s : List ℕ) (n number count : ℕ) (starts : List ℕ) → headFault s ≡ 0 → n ≡ numberAt 2 s 5 → Walked s n number count starts
+    → numberOf (sheetOf s) ≡ cond (repeats s (take count starts)) 16 number
+number-walked s n number count starts h e w =
+    let c : repeats s (take count starts) ≡ twice (names s (read s)) =
+    ap (repeats s) (w .places) ∙ ap (λ (m : ℕ). repeats s (placesFrom plainLayout s m 7)) e ∙ repeats-names plainLayout s (numberAt 2 s 5) 7 in
+    let f : number ≡ fault s = w .fault ∙ ap (λ (m : ℕ). faultFrom plainLayout s m 7) e in
+    number-records s h ∙ ap₂ (λ (b : Bool) (k : ℕ). cond b 16 k) (sym c) (sym f)

@@ -1,0 +1,140 @@
+-- One turn of the walk over the records that keeps their places.
+use mathlib.Core.Bool.{Bool, true, false, cond}
+use mathlib.Core.List.{List, [], _∷_, _++_, append-nil}
+use mathlib.Core.Path.{_≡_, refl, sym, ap, ap₂, subst, _∙_}
+use Prim.Native.Nat.{ℕ, zero, suc, _+_, _-_, _*_, _≤_, _<_}
+use native.Mathlib.Numerals.{add-one}
+use native.Mathlib.Omega.{arith}
+use lib.Dec.{eqb}
+use lib.ListN.{length, getD, take, drop, set, length-set}
+use lib.Seq.{take-suc-set, append-snoc, length-take-le, getD-take}
+use Rattle.distinct.specs.Distinct.{NameFits, NamesFit}
+use Rattle.sheet.specs.Layout.{Layout, plainLayout}
+use Rattle.sheet.specs.Sheet.{Front, bad, front, frontOf, past, placed, stepAt}
+use Rattle.sheet.specs.Structure.{faultOf, faultFrom, placesFrom, Walked}
+use Rattle.sheet.specs.declared.Cursor.{Cursor}
+use Rattle.sheet.specs.declared.Record.{Record}
+use Rattle.sheet.specs.declared.Step.the-variants.{Read, Refused, End}
+use Rattle.sheet.proofs.Places.{fieldsAt, Sound, sound}
+
+-- nothing comes after a step that reads no record
+pub record Stops (y : Layout) (s : List ℕ) (at left k : ℕ) : Type 0 where
+  pub fault : faultFrom y s left at ≡ k
+  pub places : placesFrom y s left at ≡ []
+
+pub stops-refused : (y : Layout) (s : List ℕ) (at left k : ℕ) → stepAt y s at left ≡ Refused k → Stops y s at left k
+unfolding stepAt faultFrom placesFrom
+stops-refused y s at zero k e = record { fault = go (eqb at (length s)) e; places = refl }
+  where
+    go : (b : Bool) → cond b End (Refused 4) ≡ Refused k → cond b 0 4 ≡ k
+    go true h = cc
+    go false h = cc
+stops-refused y s at (suc n) k e = go (frontOf y (drop at s)) refl e
+  where
+    go : (t : Front) → frontOf y (drop at s) ≡ t → placed at n t ≡ Refused k → Stops y s at (suc n) k
+    go (bad j) p h = record { fault = rw (p, faultFrom) (cc); places = rw (p, placesFrom) }
+    go (front f) p h = let z : _≡_ {A = ℕ} 0 1 = cc in absurd (omega arith)
+
+pub stops-end : (y : Layout) (s : List ℕ) (at left : ℕ) → stepAt y s at left ≡ End → Stops y s at left 0
+unfolding stepAt faultFrom placesFrom
+stops-end y s at zero e = record { fault = go (eqb at (length s)) e; places = refl }
+  where
+    go : (b : Bool) → cond b End (Refused 4) ≡ End → _≡_ {A = ℕ} (cond b 0 4) 0
+    go true h = refl
+    go false h = cc
+stops-end y s at (suc n) e = go (frontOf y (drop at s)) e
+  where
+    go : (t : Front) → placed at n t ≡ End → Stops y s at (suc n) 0
+    go (bad j) h = let z : _≡_ {A = ℕ} 0 1 = cc in absurd (omega arith)
+    go (front f) h = let z : _≡_ {A = ℕ} 0 1 = cc in absurd (omega arith)
+
+-- a step that reads a record of version 1 goes on behind it
+pub record Goes (s : List ℕ) (at left : ℕ) (c : Cursor) : Type 0 where
+  pub here : Sound s at
+  pub next : c .at ≡ at + 18 + getD s at 0
+  pub fewer : suc (c .left) ≡ left
+  pub fault : faultFrom plainLayout s left at ≡ faultFrom plainLayout s (c .left) (c .at)
+  pub places : placesFrom plainLayout s left at ≡ at ∷ placesFrom plainLayout s (c .left) (c .at)
+
+pub goes : (s : List ℕ) (at left : ℕ) (r : Record) (c : Cursor) → stepAt plainLayout s at left ≡ Read r c → Goes s at left c
+unfolding stepAt faultFrom placesFrom
+goes s at zero r c e = go (eqb at (length s)) e
+  where
+    go : (b : Bool) → cond b End (Refused 4) ≡ Read r c → Goes s at zero c
+    go true h = let z : _≡_ {A = ℕ} 0 1 = cc in absurd (omega arith)
+    go false h = let z : _≡_ {A = ℕ} 0 1 = cc in absurd (omega arith)
+goes s at (suc n) r c e = go (frontOf plainLayout (drop at s)) refl e
+  where
+    go : (t : Front) → frontOf plainLayout (drop at s) ≡ t → placed at n t ≡ Read r c → Goes s at (suc n) c
+    go (bad j) p h = let z : _≡_ {A = ℕ} 0 1 = cc in absurd (omega arith)
+    go (front f) p h =
+        let o : Sound s at = sound s at (ap faultOf p) in
+        let w : f ≡ fieldsAt s at = cc (o .is) in
+        let k : record { at = past at f; left = n } ≡ c = cc in
+        let a : past at f ≡ c .at = ap (λ (x : Cursor). x .at) k in
+        let l : n ≡ c .left = ap (λ (x : Cursor). x .left) k in
+        record {
+          here = o;
+          next = sym a ∙ ap (past at) w ∙ omega arith;
+          fewer = ap suc (sym l);
+          fault = rw (p, faultFrom) (ap₂ (faultFrom plainLayout s) l a);
+          places = rw (p, placesFrom) (ap (λ (x : List ℕ). at ∷ x) (ap₂ (placesFrom plainLayout s) l a));
+        }
+
+-- where the walk over n records stands after i of them: the places so far, and what is still to come
+pub record Walking (s : List ℕ) (n left at i : ℕ) (starts : List ℕ) : Type 0 where
+  pub fault : faultFrom plainLayout s n 7 ≡ faultFrom plainLayout s left at
+  pub places : placesFrom plainLayout s n 7 ≡ take i starts ++ placesFrom plainLayout s left at
+  pub room : 7 + 19 * i ≤ at
+  pub most : at ≤ 65536
+  pub whole : length starts ≡ 3449
+
+pub walking-ends : (s : List ℕ) (n left at i k : ℕ) (starts : List ℕ) → Walking s n left at i starts → Stops plainLayout s at left k
+    → Walked s n k i starts
+walking-ends s n left at i k starts w e =
+    record {
+      fault = sym (w .fault ∙ e .fault);
+      places = sym (w .places ∙ ap (λ (l : List ℕ). take i starts ++ l) (e .places) ∙ append-nil (take i starts));
+      most = omega arith;
+      whole = w .whole;
+    }
+
+pub walking-goes : (s : List ℕ) (n left at i : ℕ) (starts : List ℕ) (c : Cursor) → length s ≤ 65536
+    → Walking s n left at i starts → Goes s at left c → Walking s n (c .left) (c .at) (i + 1) (set starts i at)
+walking-goes s n left at i starts c m w g =
+    let l : i < length starts = omega arith in
+    let t : take (i + 1) (set starts i at) ≡ take i starts ++ (at ∷ []) = rw add-one (take-suc-set starts i at l) in
+    record {
+      fault = w .fault ∙ g .fault;
+      places =
+          w .places
+          ∙ ap (λ (l : List ℕ). take i starts ++ l) (g .places)
+          ∙ sym (append-snoc (take i starts) at (placesFrom plainLayout s (c .left) (c .at)))
+          ∙ ap (λ (l : List ℕ). l ++ placesFrom plainLayout s (c .left) (c .at)) (sym t);
+      room = omega arith;
+      most = omega arith;
+      whole = length-set starts i at ∙ w .whole;
+    }
+
+-- at each place that the walk keeps, the name lies in the sheet
+pub places-fit : (s : List ℕ) (n at i : ℕ) → i < length (placesFrom plainLayout s n at) → NameFits s (getD (placesFrom plainLayout s n at) i 0)
+unfolding placesFrom
+places-fit s zero at i h = absurd (omega arith)
+places-fit s (suc n) at i h = go (places-fit s n) (frontOf plainLayout (drop at s)) refl i h
+  where
+    go : ((at j : ℕ) → j < length (placesFrom plainLayout s n at) → NameFits s (getD (placesFrom plainLayout s n at) j 0))
+        → (t : Front) → frontOf plainLayout (drop at s) ≡ t → (i : ℕ)
+        → i < length {A = ℕ} (elim t as (λ x. List ℕ) [ bad k ↦ [] | front f ↦ at ∷ placesFrom plainLayout s n (past at f) ])
+        → NameFits s (getD {A = ℕ} (elim t as (λ x. List ℕ) [ bad k ↦ [] | front f ↦ at ∷ placesFrom plainLayout s n (past at f) ]) i 0)
+    go ih (bad k) p i l = absurd (omega arith)
+    go ih (front f) p zero l = let o : Sound s at = sound s at (ap faultOf p) in omega arith
+    go ih (front f) p (suc i) l = ih (past at f) i (omega arith)
+
+pub walked-fit : (s : List ℕ) (n number count : ℕ) (starts : List ℕ) → Walked s n number count starts → NamesFit s starts count
+walked-fit s n number count starts w i h =
+    let l : length (take count starts) ≡ count = length-take-le count starts (omega arith) in
+    let e : getD (take count starts) i 0 ≡ getD starts i 0 = getD-take count starts i 0 h in
+    let m : i < length (placesFrom plainLayout s n 7) = rw (← w .places) (omega arith) in
+    let f : NameFits s (getD (placesFrom plainLayout s n 7) i 0) = places-fit s n 7 i m in
+    let p : getD (placesFrom plainLayout s n 7) i 0 ≡ getD starts i 0 = ap (λ (l : List ℕ). getD l i 0) (sym (w .places)) ∙ e in
+    subst (NameFits s) p f

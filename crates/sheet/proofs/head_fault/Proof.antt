@@ -1,0 +1,76 @@
+-- `sheet::head_fault` tests the header: each answer is a case of the definition.
+use mathlib.Core.Path.{sym, _∙_}
+use borrow.Author.Tests.{le-ltb, lt-ltb, eq-eqb, ne-eqb}
+use denote.Ref.{now}
+use Rattle.octets.specs.Bytes.{numberAt}
+use Rattle.sheet.specs.Structure.{headFault}
+use Rattle.sheet.proofs.Head.{mark-bytes}
+use borrow.Author.Needs.{needs}
+use Rattle.sheet.proofs.head_fault.Statement.{statement}
+use Rattle.sheet.proofs.head_fault.Tie as tie
+
+returns : tie.Need-returns
+unfolding headFault
+returns c = simp (lt-ltb _ _ (c .if1 .taken))
+
+returns-2 : tie.Need-returns-2
+unfolding headFault
+returns-2 c = simp (le-ltb _ _ (c .before .if1 .left), lt-ltb _ _ (c .if2 .taken))
+
+shared-slice-read-if3 : tie.Need-shared-slice-read-if3
+shared-slice-read-if3 c = search needs
+
+returns-3 : tie.Need-returns-3
+unfolding headFault
+returns-3 c =
+    let s = now (c .before .before .before .before .before .args .s) in
+    simp (le-ltb 65536 _ (c .before .before .before .if1 .left), le-ltb _ 7 (c .before .before .if2 .left), mark-bytes s (c .before .before .if2 .left), ne-eqb _ _ (c .if3 .taken))
+
+shared-slice-read-if4 : tie.Need-shared-slice-read-if4
+shared-slice-read-if4 c = search needs
+
+returns-4 : tie.Need-returns-4
+unfolding headFault
+returns-4 c =
+    let s = now (c .before .before .before .before .before .before .before .args .s) in
+    simp (le-ltb 65536 _ (c .before .before .before .before .before .if1 .left), le-ltb _ 7 (c .before .before .before .before .if2 .left), mark-bytes s (c .before .before .before .before .if2 .left), eq-eqb _ _ (c .before .before .if3 .left), ne-eqb _ _ (c .if4 .taken))
+
+shared-slice-read-if5 : tie.Need-shared-slice-read-if5
+shared-slice-read-if5 c = search needs
+
+returns-5 : tie.Need-returns-5
+unfolding headFault
+returns-5 c =
+    let s = now (c .before .before .before .before .before .before .before .before .before .args .s) in
+    simp (le-ltb 65536 _ (c .before .before .before .before .before .before .before .if1 .left), le-ltb _ 7 (c .before .before .before .before .before .before .if2 .left), mark-bytes s (c .before .before .before .before .before .before .if2 .left), eq-eqb _ _ (c .before .before .before .before .if3 .left), eq-eqb _ _ (c .before .before .if4 .left), ne-eqb _ _ (c .if5 .taken))
+
+number-requires : tie.Need-number-requires
+number-requires c κs = search needs
+
+returns-6 : tie.Need-returns-6
+unfolding headFault
+returns-6 c =
+    let s = now (c .before .before .before .before .before .before .before .before .before .before .before .args .s) in
+    simp (le-ltb 65536 _ (c .before .before .before .before .before .before .before .before .before .if1 .left), le-ltb _ 7 (c .before .before .before .before .before .before .before .before .if2 .left), mark-bytes s (c .before .before .before .before .before .before .before .before .if2 .left), eq-eqb _ _ (c .before .before .before .before .before .before .if3 .left), eq-eqb _ _ (c .before .before .before .before .if4 .left), eq-eqb _ _ (c .before .before .if5 .left), eq-eqb (numberAt 2 s 3) 1 (sym (c .before .number .ensures) ∙ c .if6 .taken))
+
+returns-7 : tie.Need-returns-7
+unfolding headFault
+returns-7 c =
+    let s = now (c .before .before .before .before .before .before .before .before .before .before .before .args .s) in
+    simp (le-ltb 65536 _ (c .before .before .before .before .before .before .before .before .before .if1 .left), le-ltb _ 7 (c .before .before .before .before .before .before .before .before .if2 .left), mark-bytes s (c .before .before .before .before .before .before .before .before .if2 .left), eq-eqb _ _ (c .before .before .before .before .before .before .if3 .left), eq-eqb _ _ (c .before .before .before .before .if4 .left), eq-eqb _ _ (c .before .before .if5 .left), ne-eqb (numberAt 2 s 3) 1 (λ e. c .if6 .left (c .before .number .ensures ∙ e)))
+
+pub head-fault-spec : {M : Type 1} → statement M
+head-fault-spec =
+    tie.close
+    (tie.spec
+    returns
+    returns-2
+    shared-slice-read-if3
+    returns-3
+    shared-slice-read-if4
+    returns-4
+    shared-slice-read-if5
+    returns-5
+    number-requires
+    returns-6
+    returns-7)

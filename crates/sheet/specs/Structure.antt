@@ -1,0 +1,52 @@
+-- The sheet as its check goes through it: the header, then the records without a look at their names, by places in the sheet.
+use mathlib.Core.Bool.{cond, not, _||_}
+use mathlib.Core.List.{List, [], _∷_}
+use mathlib.Core.Path.{_≡_}
+use Prim.Native.Nat.{ℕ, zero, suc, _+_, _≤_}
+use lib.Dec.{eqb, ltb}
+use lib.ListN.{length, getD, take, drop}
+use Rattle.octets.specs.Bytes.{numberAt}
+use Rattle.sheet.specs.Layout.{Layout, plainLayout}
+use Rattle.sheet.specs.Sheet.{Front, bad, front, frontOf, past, isMarked}
+use Rattle.sheet.specs.declared.Record.{Record}
+
+-- the refusal of the sheet as a whole, or 0
+unfoldable pub headFault : List ℕ → ℕ
+headFault s =
+    cond (ltb 65536 (length s)) 1
+    (cond (ltb (length s) 7 || not (isMarked s)) 2
+    (cond (eqb (numberAt 2 s 3) 1) 0 3))
+
+-- the refusal of a record, or 0
+abbrev pub faultOf : Front → ℕ
+faultOf (bad k) = k
+faultOf (front f) = 0
+
+-- the record of version 1 whose length byte stands at a place
+abbrev pub entryAt : List ℕ → ℕ → Record
+entryAt s at =
+    let n : ℕ = getD s at 0 in
+    record {
+      start = at + 1;
+      len = n;
+      kind = getD s (at + 1 + n) 0;
+      first = numberAt 8 s (at + 1 + n + 1);
+      second = numberAt 8 s (at + 1 + n + 9);
+    }
+
+-- the places of the length bytes of n records from a place on, up to the first that is refused
+unfoldable pub placesFrom : Layout → List ℕ → ℕ → ℕ → List ℕ
+placesFrom y s zero at = []
+placesFrom y s (suc n) at = elim (frontOf y (drop at s)) [ bad k ↦ [] | front f ↦ at ∷ placesFrom y s n (past at f) ]
+
+-- the number of that refusal; 0 where all n are read and nothing is left over
+unfoldable pub faultFrom : Layout → List ℕ → ℕ → ℕ → ℕ
+faultFrom y s zero at = cond (eqb at (length s)) 0 4
+faultFrom y s (suc n) at = elim (frontOf y (drop at s)) [ bad k ↦ k | front f ↦ faultFrom y s n (past at f) ]
+
+-- what a walk over n records leaves: the refusal that ended it, and in front of the array the places of the records before it
+pub record Walked (s : List ℕ) (n number count : ℕ) (starts : List ℕ) : Type 0 where
+  pub fault : number ≡ faultFrom plainLayout s n 7
+  pub places : take count starts ≡ placesFrom plainLayout s n 7
+  pub most : count ≤ 3449
+  pub whole : length starts ≡ 3449

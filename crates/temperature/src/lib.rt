@@ -1,0 +1,123 @@
+// Temperature of a pressure and a density.
+use air::Answer;
+use air::Edge;
+use air::Edges;
+use air::Ends;
+use air::Logs;
+use tgas::Band;
+use tgas::Region;
+ghost use mathlib.Core.Path.{_≡_};
+ghost use mathlib.Core.Option.{some};
+ghost use Rattle.tgas.specs.Temperature.{temperaturePiece};
+ghost use Rattle.air.specs.Held.{held, judges};
+ghost use Rattle.air.specs.Temperature.{letterT, oneEdge, fromFit};
+ghost use Rattle.air.specs.Choices.{chosen};
+ghost use Rattle.air.specs.State.{edgeBy, kelvinBy, fittedBy, temperatureBy, temperatureProperty, heldBy};
+ghost use Rattle.temperature.specs.Ready.{PieceReady, TemperatureReady};
+
+// The fit of a band's i-th piece at Y and Z.
+fn fit_at(band: Band, i: usize, y: i64, z: i64) -> Edge
+    requires { ⌜ PieceReady band i y z ⌝ }
+    ensures { λ r. ⌜ r ≡ edgeBy chosen (temperaturePiece band i) y z ⌝ }
+{
+    let a = fit::bicubic(tgas::temperature::first_bicubic(band, i), y, z);
+    if i == 0 {
+        return Edge { fit: a, weight: 0 };
+    }
+    let w = weight::weight(fit::exponent(tgas::temperature::exponent_terms(band, i), y, z));
+    let b = fit::bicubic(tgas::temperature::second_bicubic(band, i), y, z);
+    Edge {
+        fit: fit::fitted(a, w, b),
+        weight: w,
+    }
+}
+
+// Refusal 13, with the fit that it was judged by.
+fn out_of_bounds(logs: Logs, fit: i64, weight: i64) -> Answer
+    ensures { λ r. ⌜ held r ≡ judges 13 letterT logs (oneEdge fit weight) ⌝ }
+{
+    Answer::Judged {
+        number: 13,
+        letter: b'T',
+        logs,
+        edges: Edges::One(Edge { fit, weight }),
+    }
+}
+
+// The answer of a fit: 13, or the temperature.
+fn from_fit(logs: Logs, fit: i64, weight: i64) -> Answer
+    ensures { λ r. ⌜ held r ≡ fromFit logs fit weight (kelvinBy chosen fit) ⌝ }
+{
+    if fit < 0 {
+        return out_of_bounds(logs, fit, weight);
+    }
+    if 19600000000 < fit {
+        return out_of_bounds(logs, fit, weight);
+    }
+    let t = power::kelvin_power(fit as u64 / 10000);
+    Answer::Shows {
+        letter: b'T',
+        logs,
+        edges: Edges::One(Edge { fit, weight }),
+        ends: Ends::Unjoined,
+        value: t as i64,
+    }
+}
+
+// The answer of a band's i-th piece.
+fn fitted(band: Band, i: usize, logs: Logs) -> Answer
+    requires { ⌜ PieceReady band i (logs .y) (logs .z) ⌝ }
+    ensures { λ r. ⌜ held r ≡ fittedBy chosen (temperaturePiece band i) logs ⌝ }
+{
+    let e = fit_at(band, i, logs.y, logs.z);
+    from_fit(logs, e.fit, e.weight)
+}
+
+// A temperature's answer from its logarithms.
+fn temperature_from(p: u64, d: u64, logs: Logs) -> Answer
+    requires { ⌜ TemperatureReady p d logs ⌝ }
+    ensures { λ r. ⌜ held r ≡ temperatureBy chosen p d logs ⌝ }
+{
+    let y = logs.y;
+    let z = logs.z;
+    match tgas::region_of(y, z) {
+        Region::Refused => Answer::Judged {
+            number: 12,
+            letter: b'T',
+            logs,
+            edges: Edges::Unfitted,
+        },
+        Region::Perfect => Answer::Shows {
+            letter: b'T',
+            logs,
+            edges: Edges::Unfitted,
+            ends: Ends::Unjoined,
+            value: perfect::perfect_gas(p, d) as i64,
+        },
+        Region::Fitted(band, i) => fitted(band, i, logs),
+    }
+}
+
+// Temperature from a pressure and a density of any size.
+pub fn temperature(p: u64, d: u64) -> Answer
+    ensures { λ r. ⌜ held r ≡ heldBy chosen (some temperatureProperty) p d ⌝ }
+{
+    if !air::within(1, 100000000000000000, p) {
+        return Answer::Refused(10);
+    }
+    if !air::within(12920, 129200000000000, d) {
+        return Answer::Refused(11);
+    }
+    let x = logarithm::log10_ratio(p, 101330000000);
+    let y = logarithm::log10_ratio(d, 129200000000);
+    temperature_from(
+        p,
+        d,
+        Logs {
+            triple: true,
+            x,
+            y,
+            z: x - y,
+        },
+    )
+}

@@ -1,0 +1,5 @@
+pub mod Units
+pub mod Bands
+pub mod Temperature
+pub mod Region
+pub mod Entropy

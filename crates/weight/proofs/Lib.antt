@@ -1,0 +1,12 @@
+pub mod Series
+pub mod Lipschitz
+pub mod Moved
+pub mod Tail
+pub mod Addition
+pub mod Table
+pub mod Inverse
+pub mod Exponential
+pub mod Near
+pub mod Digits
+pub mod Sizes
+pub mod Machine

@@ -1,0 +1,186 @@
+-- The law of the program's choice: `weightOf` is a weight, within 1 unit of the ideal one for every number of terms from 128 up.
+-- Budget, in units of 1 / scale: 13 from the short sum, and 4 from the tables that count as 5 beside the whole sum; 18 · 10^10 is at most scale.
+use mathlib.Core.Bool.{Bool, true, false}
+use mathlib.Core.Path.{_≡_, refl, ap, subst}
+use Prim.Native.Nat.{ℕ, zero, suc, _+_, _-_, _*_, _/_, _%_, _≤_, _<_}
+use native.Mathlib.Nat.{mul-le-mul-left, mul-le-mul-right, mul-pos, le-of-mul-le-mul-right, le-of-mul-le-mul-left}
+use native.Mathlib.Nat.{div-mul-le-self, lt-div-mul-add, div-add-mod', mod-lt}
+use native.Mathlib.Omega.{arith}
+use borrow.Author.Tests.{ltb-true, ltb-false}
+use lib.Dec.{ltb, lit<, lit≤}
+use lib.IntN.{ℤ, pos, negsuc, _+ℤ_, _-ℤ_}
+use lib.Signed.{_≤ℤ_}
+use Rattle.integer.specs.Z.{zs, rep-var, ≤-by}
+use Rattle.integer.specs.Laws.{≤ℤ-trans, *ℤ-mono}
+use Rattle.fraction.specs.Fraction.{Fraction, Within, parts, times, whole}
+use Rattle.weight.specs.Weight.{num, den, units, tolerance, ideal, IsWeight}
+use Rattle.weight.specs.Choice.{scale, inverse, exponential, share, orZero, weightAbove, weightOf}
+use Rattle.weight.proofs.Series.{den-pos, den-le-num, num-mono}
+use Rattle.weight.proofs.Tail.{sum-mono}
+use Rattle.weight.proofs.Exponential.{exponential-up, exponential-low, exponential-ge}
+use Rattle.weight.proofs.Addition.{add-up, add-low}
+use Rattle.weight.proofs.Inverse.{Inverse, product-le, inverse-is}
+
+-- ---- from c and v to the sum at a + r: v / c beside z / d
+-- the sums at a and at r, over dm and dk, at a + r over d
+ratio-up : (s c v dm dk d x y z : ℕ) → 0 < s → 0 < dm → 0 < dk → s * dm ≤ c * x → v * dk ≤ s * y → x * y * d ≤ z * (dm * dk) → v * d ≤ c * z
+ratio-up s c v dm dk d x y z ps pm pk hc hv low =
+    le-of-mul-le-mul-right {k = s * (dm * dk)}
+    (omega (arith, mul-le-mul-right (s * dm * d) hv, mul-le-mul-right (s * y * d) hc, mul-le-mul-left (s * c) low))
+    (mul-pos ps (mul-pos pm pk))
+
+-- the sums at a, at r and at a + r, over d
+ratio-low : (s c v d x y z : ℕ) → 0 < d → c * x ≤ s * d + 4 * x → s * y ≤ (v + 13) * d → d * z ≤ x * y → 4 * (x * y) ≤ 5 * (z * d) → d ≤ z
+    → c * z ≤ v * d + 18 * z
+ratio-low s c v d x y z pd hc hv up most dz =
+    le-of-mul-le-mul-right {k = d}
+    (omega (arith, mul-le-mul-left c up, mul-le-mul-right y hc, mul-le-mul-right d hv, mul-le-mul-right d dz))
+    pd
+
+-- ---- from v / c to the weight w = b · c / (c + v)
+module _ (b c v p d w : ℕ) (some : 0 < c) where
+  share-low : v * d ≤ c * p → b * c ≤ (w + 1) * (c + v) → b * d ≤ (w + 1) * (d + p)
+  share-low up h = le-of-mul-le-mul-left {k = c} (omega (arith, mul-le-mul-right d h, mul-le-mul-left (w + 1) up)) some
+
+  share-high : c * p ≤ v * d + 18 * p → w * (c + v) ≤ b * c → 18 * w ≤ c → w * (d + p) ≤ b * d + 1 * (d + p)
+  share-high low h small =
+      le-of-mul-le-mul-left {k = c} (omega (arith, mul-le-mul-right d h, mul-le-mul-left w low, mul-le-mul-right p small)) some
+
+  share-small : 0 < b → 18 * b ≤ v → w * (c + v) ≤ b * c → 18 * w ≤ c
+  share-small pb hv h = le-of-mul-le-mul-left {k = b} (omega (arith, mul-le-mul-left w hv)) pb
+
+  share-most : w * (c + v) ≤ b * c → w ≤ b
+  share-most h = le-of-mul-le-mul-right {k = c} (omega arith) some
+
+-- w is within 1 of the ideal weight at u, in naturals
+record Near (u w : ℕ) : Type 0 where
+  most : w ≤ units
+  low : (n : ℕ) → 128 ≤ n → units * den units n ≤ (w + 1) * (den units n + num units u n)
+  high : (n : ℕ) → 128 ≤ n → w * (den units n + num units u n) ≤ units * den units n + 1 * (den units n + num units u n)
+
+-- ---- below 24
+module _ (a r c : ℕ) (small : r < 625000000) (below : a + r < 240000000000) (is : Inverse 4 122 a c) where
+  abbrev v : ℕ
+  v = exponential r
+
+  up-128 : v * den units 128 ≤ c * num units (a + r) 128
+  up-128 =
+      ratio-up scale c v (den units 122) (den units 6) (den units 128) (num units a 122) (num units r 6) (num units (a + r) 128)
+      (lit< tt) (den-pos units 122 (lit< tt)) (den-pos units 6 (lit< tt)) (is .low) (exponential-up r small) (add-low units a r 122 6 (lit< tt))
+
+  up : (n : ℕ) → 128 ≤ n → v * den units n ≤ c * num units (a + r) n
+  up n h =
+      le-of-mul-le-mul-right {k = den units 128}
+      (omega (arith, mul-le-mul-right (den units n) up-128, mul-le-mul-left c (sum-mono units (a + r) 128 n (lit< tt) h)))
+      (den-pos units 128 (lit< tt))
+
+  low : (n : ℕ) → 128 ≤ n → c * num units (a + r) n ≤ v * den units n + 18 * num units (a + r) n
+  low n h =
+      ratio-low scale c v (den units n) (num units a n) (num units r n) (num units (a + r) n)
+      (den-pos units n (lit< tt)) (is .high n h)
+      (exponential-low r small n (omega arith))
+      (add-up units a r n (lit< tt)) (product-le units a r n (lit< tt) (omega arith)) (den-le-num units (a + r) n)
+
+  some : 0 < c
+  some = by c (is .low)
+    where
+      by : (c : ℕ) → scale * den units 122 ≤ c * num units a 122 → 0 < c
+      by zero h = let f : ⊥ = omega (arith, den-pos units 122 (lit< tt)) in absurd f
+      by (suc c) h = omega arith
+
+  near-below : (w : ℕ) → w ≡ share c v → Near (a + r) w
+  unfolding share
+  near-below w e =
+      record {
+        most = share-most units c v 0 0 w some quotient-high;
+        low = λ n h. share-low units c v (num units (a + r) n) (den units n) w some (up n h) quotient-low;
+        high = λ n h.
+            share-high units c v (num units (a + r) n) (den units n) w some (low n h) quotient-high
+            (share-small units c v 0 0 w some (lit< tt) enough quotient-high);
+      }
+    where
+      quotient-high : w * (c + v) ≤ units * c
+      quotient-high = rw e (div-mul-le-self (units * c) (c + v))
+
+      quotient-low : units * c ≤ (w + 1) * (c + v)
+      quotient-low = rw e (omega (arith, lt-div-mul-add {a = units * c} {b = c + v} (omega (arith, some))))
+
+      enough : 18 * units ≤ v
+      enough = omega (arith, exponential-ge r small)
+
+-- ---- from 24 on: the sum is above 10^10
+at-24 : units * den units 128 ≤ num units 240000000000 128
+unfolding num den
+at-24 = lit≤ tt
+
+near-zero : (u : ℕ) → 240000000000 ≤ u → Near u 0
+near-zero u h = record { most = omega arith; low = λ n k. omega (arith, big n k); high = λ n k. omega arith }
+  where
+    big : (n : ℕ) → 128 ≤ n → units * den units n ≤ num units u n
+    big n k =
+        le-of-mul-le-mul-right {k = den units 128}
+        (omega (
+          arith,
+          mul-le-mul-right (den units n) at-24,
+          mul-le-mul-right (den units n) (num-mono units 128 h),
+          sum-mono units u 128 n (lit< tt) k,
+        ))
+        (den-pos units 128 (lit< tt))
+
+near-above : (u : ℕ) → Near u (weightAbove u)
+unfolding weightAbove
+near-above u = by (ltb u 240000000000) refl
+  where
+    whole-is : u / 625000000 * 625000000 + u % 625000000 ≡ u
+    whole-is = div-add-mod' u 625000000
+
+    by : (t : Bool) → ltb u 240000000000 ≡ t → Near u (orZero t (share (inverse (u / 625000000)) (exponential (u % 625000000))))
+    by true e =
+        let h = ltb-true u 240000000000 e in
+        subst (λ (x : ℕ). Near x (share (inverse (u / 625000000)) (exponential (u % 625000000)))) whole-is
+        (near-below (u / 625000000 * 625000000) (u % 625000000) (inverse (u / 625000000)) (mod-lt u (lit< tt)) (omega (arith, whole-is))
+        (inverse-is (u / 625000000) (omega arith)) (share (inverse (u / 625000000)) (exponential (u % 625000000))) refl)
+    by false e = near-zero u (ltb-false u 240000000000 e)
+
+-- ---- in whole numbers, for both signs
+within : (k w t d : ℕ) → 0 < d → w * d ≤ units * t + k * d → units * t ≤ (w + k) * d → Within k (pos w) (times (whole (pos units)) (parts d (pos t)))
+within k w t d p h l =
+    record { proper = record { some = omega arith }; low = ≤-by (search zs) (omega arith); high = ≤-by (search zs) (omega arith) }
+
+pub weight-near : (q : ℤ) → IsWeight 1 q (weightOf q)
+unfolding weightOf ideal
+weight-near (pos u) =
+    let h = near-above u in
+    record {
+      least = ≤-by (search zs) (omega arith);
+      most = ≤-by (search zs) (omega (arith, h .most));
+      near = λ n k. within 1 (weightAbove u) (den units n) (den units n + num units u n) (omega (arith, den-pos units n (lit< tt))) (h .high n k) (h .low n k);
+    }
+weight-near (negsuc m) =
+    let h = near-above (suc m) in
+    let e : units - weightAbove (suc m) + weightAbove (suc m) ≡ units = omega (arith, h .most) in
+    record {
+      least = ≤-by (search zs) (omega arith);
+      most = ≤-by (search zs) (omega arith);
+      near = λ n k.
+          let c = den units n + num units (suc m) n in
+          within 1 (units - weightAbove (suc m)) (num units (suc m) n) c (omega (arith, den-pos units n (lit< tt)))
+          (omega (arith, h .low n k, ap (λ x. x * c) e))
+          (omega (arith, h .high n k, ap (λ x. x * c) e));
+    }
+
+-- what is within j is within more
+within-more : {j k : ℕ} {w : ℤ} {f : Fraction} → j ≤ k → Within j w f → Within k w f
+within-more {j} {k} {w} {f} l h =
+    let vw = rep-var w in
+    let less : (w -ℤ pos k) ≤ℤ (w -ℤ pos j) = ≤-by (search zs) (omega arith) in
+    let more : (w +ℤ pos j) ≤ℤ (w +ℤ pos k) = ≤-by (search zs) (omega arith) in
+    record { proper = h .proper; low = ≤ℤ-trans (*ℤ-mono (f .bottom) less) (h .low); high = ≤ℤ-trans (h .high) (*ℤ-mono (f .bottom) more) }
+
+pub weight-is : (q : ℤ) → IsWeight tolerance q (weightOf q)
+weight-is q =
+    let h = weight-near q in
+    record { least = h .least; most = h .most; near = λ n k. within-more (lit≤ tt) (h .near n k) }
+
+pub above-most : (u : ℕ) → weightAbove u ≤ units
+above-most u = near-above u .most

@@ -1,0 +1,113 @@
+"""Compares every number of the tables in crates/tgas, in specs/ and in src/, with tests/listing/*.txt: the numerals as
+source document 000 prints them, by label and name. A number that differs, is missing or stands elsewhere fails."""
+
+import re
+import sys
+from decimal import Decimal
+from pathlib import Path
+
+ROOT = Path(__file__).resolve().parent.parent
+TGAS = ROOT / "crates" / "tgas"
+
+# the listing's labels, in the order of a band's pieces
+TEMPERATURE = {"low": (310, 320, 330, 340), "middle": (360, 370, 380, 390), "high": (410, 420, 430)}
+ENTROPY = {"low": 80, "middle": 90, "high": 100}
+FIRST, SECOND, TERMS = ("GAS1", "GAS2", "GAS3", "GAS4"), ("GAS5", "GAS6", "GAS7", "GAS8"), ("GAS9",)
+
+
+def printed(file):
+    """label and name, to the numerals in whole numbers of 10^-10"""
+    rows = {}
+    for line in (ROOT / "tests" / "listing" / file).read_text().splitlines():
+        if not line or line.startswith("#"):
+            continue
+        label, name, *numerals = line.split()
+        if (int(label), name) in rows:
+            sys.exit(f"{file}: {label} {name} stands twice")
+        rows[int(label), name] = [whole(Decimal(n) * 10**10, line) for n in numerals]
+    return rows
+
+
+def whole(value, line):
+    if value != int(value):
+        sys.exit(f"not a whole number of 10^-10: {line}")
+    return int(value)
+
+
+def spec_lists(file):
+    """name of a definition, to its numbers"""
+    text = (TGAS / "specs" / file).read_text()
+    lists = {}
+    for name, body in re.findall(r"^(\S+) =\n((?:    .*\n)+)", text, re.M):
+        numbers = re.findall(r"\b([pm]) (\d+)_(\d{10})\b", body)
+        if numbers:
+            lists[name] = [int(a + b) * (1 if sign == "p" else -1) for sign, a, b in numbers]
+    return lists
+
+
+def code_lists(file):
+    """name of the definition that a function ensures, to the numbers that it returns"""
+    text = (TGAS / "src" / file).read_text()
+    found = re.findall(r"fn \w+\(\) -> \[i64; (\d+)\]\n    ensures \{ λ r\. ⌜ r ≡ (\S+) ⌝ \}\n\{\n    \[([^\]]*)\]", text)
+    lists = {}
+    for length, name, body in found:
+        lists[name] = [int(n.replace("_", "")) for n in re.findall(r"-?\d[\d_]*", body)]
+        if len(lists[name]) != int(length):
+            sys.exit(f"{file}: {name} has {len(lists[name])} numbers")
+    return lists
+
+
+def wanted(temperature, entropy):
+    """name of a definition, to its numbers in the listing"""
+    lists = {}
+    for band, labels in TEMPERATURE.items():
+        for index, label in enumerate(labels, 1):
+            parts = (("A", FIRST),) if index == 1 else (("A", FIRST), ("B", SECOND), ("q", TERMS))
+            for part, names in parts:
+                lists["temperature", f"{band}{index}-{part}"] = [n for name in names for n in temperature.pop((label, name))]
+    for band, label in ENTROPY.items():
+        lists["entropy", f"{band}-n"] = [n for name in FIRST for n in entropy.pop((label, name))]
+    return lists
+
+
+def same(what, have, want):
+    if have != want:
+        sys.exit(f"{what}: {have} instead of {want}")
+
+
+def ends(temperature, entropy):
+    """the pieces' ends and the limits of Z, in millionths"""
+    spec = (TGAS / "specs" / "Temperature.antt").read_text()
+    code = (TGAS / "src" / "lib.rt").read_text()
+    for band, labels in TEMPERATURE.items():
+        want = [n // 10**4 for label in labels[:-1] for n in temperature.pop((label, "END"))]
+        line = re.search(rf"^temperatureEnds {band.title()} = (.*)$", spec, re.M).group(1)
+        same(f"specs, ends of {band}", [int(n) for n in re.findall(r"pos (\d+)", line)], want)
+        call = re.search(rf"Band::{band.title()} => \w+\(z, ([^)]*)\)", code).group(1)
+        same(f"src, ends of {band}", [int(n) for n in call.split(",")], want)
+    spec = (TGAS / "specs" / "Entropy.antt").read_text()
+    code = (TGAS / "src" / "entropy.rt").read_text()
+    for band, label in ENTROPY.items():
+        want = entropy.pop((label, "LIMIT"))[0] // 10**4
+        same(f"specs, limit of {band}", int(re.search(rf"^entropyLimit {band.title()} = pos (\d+)$", spec, re.M).group(1)), want)
+        same(f"src, limit of {band}", int(re.search(rf"Band::{band.title()} => (\d+),", code).group(1)), want)
+
+
+def main():
+    temperature, entropy = printed("temperature.txt"), printed("entropy.txt")
+    lists = wanted(temperature, entropy)
+    ends(temperature, entropy)
+    same("rows of the listing that no table has", list(temperature) + list(entropy), [])
+    for where, read in (("specs", spec_lists), ("src", code_lists)):
+        suffix = "antt" if where == "specs" else "rt"
+        have = {}
+        for kind in ("temperature", "entropy"):
+            file = f"{kind.title() if where == 'specs' else kind}.{suffix}"
+            have.update({(kind, name): numbers for name, numbers in read(file).items()})
+        same(f"{where}: the tables' names", sorted(have), sorted(lists))
+        for key, numbers in lists.items():
+            same(f"{where}: {' '.join(key)}", have[key], numbers)
+    print(f"{sum(map(len, lists.values()))} coefficients agree")
+
+
+main()
