@@ -1,0 +1,50 @@
+-- Demand 3, and that what lawful choices make of a search is allowed.
+use mathlib.Core.List.{List, List·Memᴰ}
+use mathlib.Core.Path.{_≡_, ap, _∙_, subst}
+use Prim.Native.Nat.{ℕ, _≤_}
+use lib.Dec.{lit≤}
+use Rattle.octets.specs.Room.{text}
+use Rattle.name.specs.Name.{nameOf}
+use Rattle.sheet.specs.declared.Record.{Record}
+use Rattle.sheet.specs.declared.Lookup.{Lookup}
+use Rattle.sheet.specs.declared.Lookup.the-variants.{Hit, Miss}
+use Rattle.sheet.specs.Layout.{layoutOf}
+use Rattle.sheet.specs.Sheet.{records, sheetOf, nameIn}
+use Rattle.sheet.proofs.Locate.{finds}
+use Rattle.air.specs.declared.Answer.{Answer}
+use Rattle.air.specs.Held.{held}
+use Rattle.air.specs.Choices.{Choices, Lawful, chosen}
+use Rattle.air.specs.State.{IsAnswer}
+use Rattle.air.proofs.Claims.{accurate, no-refusal}
+use Rattle.air.proofs.Allowed.{allowed, lawful}
+use Rattle.calculator.specs.Search.{locate, locateIn, locateName, AnswerAt, IsSearch, answerAt, searchBy}
+use Rattle.calculator.specs.Demand3.{Answered, Demand3, SearchDemand3}
+
+-- any valid spelling of a record's name finds that record
+locates : (s : List ℕ) (rs : List Record) (r : Record) (spelling : List ℕ)
+    → sheetOf s ≡ records rs → List·Memᴰ r rs → nameOf spelling ≡ text (nameIn s r) → locate s spelling ≡ Hit r
+unfolding locate
+locates s rs r spelling e m k = ap (locateIn s spelling) e ∙ ap (locateName s rs) k ∙ finds layoutOf s rs r e m .found
+
+pub demand3 : Demand3
+unfolding IsSearch
+demand3 s rs r spelling a e m k searched ok =
+    let it : IsAnswer (r .kind) (r .first) (r .second) a = subst (λ (f : Lookup). AnswerAt f a) (locates s rs r spelling e m k) searched in
+    record {
+      answer = it;
+      no-refusal = no-refusal 128 (r .kind) (r .first) (r .second) a (accurate 128 (lit≤ tt) (r .kind) (r .first) (r .second) a ok it);
+      accurate = λ n h. accurate n h (r .kind) (r .first) (r .second) a ok it;
+    }
+
+allowed-at : (c : Choices) → Lawful c → (f : Lookup) (a : Answer) → held a ≡ answerAt c f → AnswerAt f a
+allowed-at c law (Miss n) a e = e
+allowed-at c law (Hit r) a e = allowed c law (r .kind) (r .first) (r .second) a e
+
+-- what lawful choices make of a search is an answer that document 01 allows
+pub search-allowed : (c : Choices) → Lawful c → (s spelling : List ℕ) (a : Answer) → held a ≡ searchBy c s spelling → IsSearch s spelling a
+unfolding IsSearch searchBy
+search-allowed c law s spelling a e = allowed-at c law (locate s spelling) a e
+
+-- demand 3 of the search's own contract
+pub search-demand3 : SearchDemand3
+search-demand3 s rs r spelling a e m k searched ok = demand3 s rs r spelling a e m k (search-allowed chosen lawful s spelling a searched) ok

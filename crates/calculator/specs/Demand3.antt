@@ -1,0 +1,43 @@
+-- Demand 3, as a statement over specs/ alone.
+use mathlib.Core.List.{List, List·Memᴰ}
+use mathlib.Core.Path.{_≡_}
+use Prim.Native.Nat.{ℕ, _≤_}
+use Rattle.octets.specs.Room.{text}
+use Rattle.name.specs.Name.{nameOf}
+use Rattle.sheet.specs.declared.Record.{Record}
+use Rattle.sheet.specs.Sheet.{records, sheetOf, nameIn}
+use Rattle.air.specs.declared.Answer.{Answer}
+use Rattle.air.specs.Held.{held}
+use Rattle.air.specs.State.{IsAnswer, Accepted, Accurate}
+use Rattle.air.specs.Choices.{chosen}
+use Rattle.calculator.specs.Search.{IsSearch, searchBy}
+
+-- what demand 3 says of the one answer that a search by a state's name gives: it is that state's, it is no refusal,
+-- and for every number of terms from 128 up all bounds hold of it
+pub record Answered (r : Record) (a : Answer) : Type 0 where
+  pub answer : IsAnswer (r .kind) (r .first) (r .second) a
+  pub no-refusal : held a .number ≡ 0
+  pub accurate : (n : ℕ) → 128 ≤ n → Accurate n (r .kind) (r .first) (r .second) a
+
+-- any sheet s that is accepted, any record r of it, any spelling that reads to its name, any answer a that the search may
+-- give, by which the state is accepted
+abbrev pub Demand3 : Type 0
+Demand3 =
+    (s : List ℕ) (rs : List Record) (r : Record) (spelling : List ℕ) (a : Answer)
+    → sheetOf s ≡ records rs
+    → List·Memᴰ r rs
+    → nameOf spelling ≡ text (nameIn s r)
+    → IsSearch s spelling a
+    → Accepted (r .kind) (r .first) (r .second) a
+    → Answered r a
+
+-- the same of what this program's search holds by its contract
+abbrev pub SearchDemand3 : Type 0
+SearchDemand3 =
+    (s : List ℕ) (rs : List Record) (r : Record) (spelling : List ℕ) (a : Answer)
+    → sheetOf s ≡ records rs
+    → List·Memᴰ r rs
+    → nameOf spelling ≡ text (nameIn s r)
+    → held a ≡ searchBy chosen s spelling
+    → Accepted (r .kind) (r .first) (r .second) a
+    → Answered r a

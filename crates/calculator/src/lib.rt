@@ -1,0 +1,67 @@
+// The search of a sheet by a spelled name.
+use air::Answer;
+use octets::Outcome;
+use sheet::Lookup;
+ghost use mathlib.Core.Path.{_≡_};
+ghost use Rattle.sheet.specs.Sheet.{Accepted};
+ghost use Rattle.sheet.specs.Find.{handedBack};
+ghost use Rattle.air.specs.Held.{held};
+ghost use Rattle.air.specs.Choices.{chosen};
+ghost use Rattle.calculator.specs.Search.{locate, answerAt, searchBy};
+
+// The record that a spelling finds in a sheet that was checked.
+pub fn locate_in(sheet: &[u8], spelled: &[u8]) -> Lookup
+    requires { ⌜ Accepted (now sheet) ⌝ }
+    ensures { λ r. ⌜ r ≡ locate (now (sheet .entry)) (now (spelled .entry)) ⌝ }
+{
+    let name = name::read(spelled);
+    let bytes = name.bytes;
+    let outcome = name.outcome;
+    match outcome {
+        Outcome::Refused(number) => Lookup::Miss(number),
+        Outcome::Done(n) => sheet::find(sheet, &bytes[..n]),
+    }
+}
+
+// The record that a spelling finds in any bytes: the sheet's refusals, then the name's, then 9.
+pub fn locate(sheet: &[u8], spelled: &[u8]) -> Lookup
+    ensures { λ r. ⌜ r ≡ locate (now (sheet .entry)) (now (spelled .entry)) ⌝ }
+{
+    let number = sheet::check(sheet);
+    if number != 0 {
+        return Lookup::Miss(number);
+    }
+    locate_in(sheet, spelled)
+}
+
+// The answer for what was found.
+fn answer_at(found: Lookup) -> Answer
+    ensures { λ r. ⌜ held r ≡ answerAt chosen found ⌝ }
+{
+    match found {
+        Lookup::Miss(number) => Answer::Refused(number),
+        Lookup::Hit(record) => evaluate::evaluate(record.kind, record.first, record.second),
+    }
+}
+
+// The answer for a spelling in a sheet that was checked.
+pub fn answer_in(sheet: &[u8], spelled: &[u8]) -> Answer
+    requires { ⌜ Accepted (now sheet) ⌝ }
+    ensures { λ r. ⌜ held r ≡ searchBy chosen (now (sheet .entry)) (now (spelled .entry)) ⌝ }
+{
+    answer_at(locate_in(sheet, spelled))
+}
+
+// The answer for a sheet and a spelling of any bytes.
+pub fn search(sheet: &[u8], spelled: &[u8]) -> Answer
+    ensures { λ r. ⌜ held r ≡ searchBy chosen (now (sheet .entry)) (now (spelled .entry)) ⌝ }
+{
+    answer_at(locate(sheet, spelled))
+}
+
+// The name that a search finds, as the part of the sheet that holds it; empty where the search refuses.
+pub fn found_name<'a, 'b>(sheet: &'a [u8], spelled: &'b [u8]) -> &'a [u8]
+    ensures { λ r. ⌜ now r ≡ handedBack (now (sheet .entry)) (locate (now (sheet .entry)) (now (spelled .entry))) ⌝ }
+{
+    sheet::handed_back(sheet, locate(sheet, spelled))
+}

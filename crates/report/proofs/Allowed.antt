@@ -1,0 +1,90 @@
+-- What lawful choices make of a sheet and a list is an output that document 01 allows.
+-- Assumes nothing.
+use mathlib.Core.Bool.{Bool, true, false, cond}
+use mathlib.Core.List.{List, [], _∷_, _++_}
+use mathlib.Core.Path.{_≡_, refl, sym, ap, subst}
+use Prim.Native.Nat.{ℕ}
+use lib.IntN.{ℤ}
+use Rattle.air.specs.declared.Answer.{Answer}
+use Rattle.air.specs.declared.Answer.the-variants.{Judged, Shows}
+use Rattle.air.specs.declared.Answer.the-variants as a
+use Rattle.air.specs.declared.Logs.{Logs}
+use Rattle.air.specs.Held.{Held, held, refuses}
+use Rattle.air.specs.Quantities.{isPressure, isDensity, isEnergy}
+use Rattle.air.specs.Choices.{Choices, Lawful}
+use Rattle.air.specs.Temperature.{fromFit, beyondFit}
+use Rattle.air.specs.Entropy.{entropyIn, entropyFrom, beyondEntropy}
+use Rattle.air.specs.State.{temperatureLogs, entropyLogs, fittedBy, temperatureAt, temperatureBy, propertyOf, ranged, heldBy, answerBy}
+use Rattle.kind.specs.declared.Kind.{Kind}
+use Rattle.kind.specs.declared.Kind.the-variants.{Temperature, Entropy, Unknown}
+use Rattle.kind.specs.Kind.{kindOf}
+use Rattle.sheet.specs.declared.Lookup.{Lookup}
+use Rattle.sheet.specs.declared.Lookup.the-variants.{Hit, Miss}
+use Rattle.tgas.specs.declared.Region.{Region}
+use Rattle.tgas.specs.declared.Region.the-variants as r
+use Rattle.tgas.specs.Region.{regionOf}
+use Rattle.calculator.specs.Search.{locate, answerAt, searchBy}
+use Rattle.calculator.proofs.Demand3.{search-allowed}
+use Rattle.line.specs.Line.{line}
+use Rattle.report.specs.Listing.{linesOf, linesBy, listingBy, Lines, done, next, IsListing}
+
+-- an answer that holds h
+record Holder (h : Held) : Type 0 where
+  answer : Answer
+  holds : held answer ≡ h
+
+refusal : (n : ℕ) → Holder (refuses n)
+refusal n = record { answer = a.Refused n; holds = refl }
+
+either : {x y : Held} (b : Bool) → Holder x → Holder y → Holder (cond b x y)
+either true p q = p
+either false p q = q
+
+in-range : (n : ℕ) (first second : Bool) {h : Held} → Holder h → Holder (ranged n first second h)
+in-range n true true p = p
+in-range n true false p = refusal n
+in-range n false second p = refusal 10
+
+-- a fit shows a value or is judged
+fit : (l : Logs) (g w : ℤ) (t : ℕ) → Holder (fromFit l g w t)
+unfolding fromFit
+fit l g w t = either (beyondFit g) (record { answer = Judged _ _ _ _; holds = refl }) (record { answer = Shows _ _ _ _ _; holds = refl })
+
+entropy : (l : Logs) → Holder (entropyFrom l)
+unfolding entropyIn
+entropy l = either (beyondEntropy l) (record { answer = Judged _ _ _ _; holds = refl }) (record { answer = Shows _ _ _ _ _; holds = refl })
+
+module _ (c : Choices) where
+  temperature : (g : Region) (p d : ℕ) (l : Logs) → Holder (temperatureAt c g p d l)
+  unfolding fittedBy
+  temperature r.Refused p d l = record { answer = Judged _ _ _ _; holds = refl }
+  temperature r.Perfect p d l = record { answer = Shows _ _ _ _ _; holds = refl }
+  temperature (r.Fitted b i) p d l = fit l _ _ _
+
+  state : (k : Kind) (v w : ℕ) → Holder (heldBy c (propertyOf k) v w)
+  unfolding temperatureBy
+  state Temperature v w = let l = temperatureLogs c v w in in-range 11 (isPressure v) (isDensity w) (temperature (regionOf (l .y) (l .z)) v w l)
+  state Entropy v w = in-range 11 (isEnergy v) (isDensity w) {h = entropyFrom (entropyLogs c v w)} (entropy (entropyLogs c v w))
+  state Unknown v w = refusal 6
+
+  found : (f : Lookup) → Holder (answerAt c f)
+  unfolding answerBy
+  found (Miss n) = refusal n
+  found (Hit x) = state (kindOf (x .kind)) (x .first) (x .second)
+
+  searched : (sheet spelling : List ℕ) → Holder (searchBy c sheet spelling)
+  unfolding searchBy
+  searched sheet spelling = found (locate sheet spelling)
+
+module _ (c : Choices) (law : Lawful c) (sheet : List ℕ) where
+  lines : (ns : List (List ℕ)) → Lines sheet ns (linesBy c sheet ns)
+  unfolding linesBy
+  lines [] = done
+  lines (n ∷ ns) =
+      let h = searched c sheet n in
+      subst (λ (x : Held). Lines sheet (n ∷ ns) (line n x ++ linesBy c sheet ns)) (h .holds)
+      (next (h .answer) (search-allowed c law sheet n (h .answer) (h .holds)) (lines ns))
+
+  pub listing-allowed : (input : List ℕ) → IsListing sheet input (listingBy c sheet input)
+  unfolding listingBy
+  listing-allowed input = record { lines = linesBy c sheet (linesOf input); allowed = lines (linesOf input); is = refl }

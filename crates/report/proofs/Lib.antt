@@ -1,0 +1,4 @@
+pub mod Input
+pub mod Output
+pub mod Cases
+pub mod Allowed
