@@ -38,7 +38,7 @@ typedef struct {
 
 enum { EAS_CARRIES_LOGS = 1, EAS_CARRIES_X = 2, EAS_CARRIES_LOW = 4, EAS_CARRIES_HIGH = 8, EAS_CARRIES_VALUE = 16 };
 
-/* Every field that is not carried is 0, so that two answers compare byte for byte. */
+/* Every field that is not carried is 0, so that two answers compare field by field. */
 typedef struct {
     uint32_t number;    /* 0, or the refusal's number */
     uint32_t letter;    /* 'T' temperature, 'S' entropy; 0 where nothing was worked out */

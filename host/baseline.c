@@ -1,0 +1,267 @@
+#include "baseline.h"
+
+#include <math.h>
+#include <stdio.h>
+#include <string.h>
+
+#include "tgas.h"
+
+enum { SLOTS = 8192, MOST_RECORDS = 65536 / 19 + 1, NONE = 0xffff };
+
+/* Names seen so far: chains of record places by hash, in as many slots as the sheet's count asks for. */
+typedef struct {
+    uint32_t mask;
+    unsigned count;
+    uint16_t head[SLOTS];
+    struct {
+        uint32_t hash, at, next;
+    } entry[MOST_RECORDS];
+} table;
+
+static uint32_t hash_of(const uint8_t *name, size_t length) {
+    uint32_t hash = (uint32_t)length;
+    for (size_t i = 0; i < length; i++)
+        hash = (hash ^ name[i]) * 2654435761u;
+    return hash ^ hash >> 15;
+}
+
+/* The record with this name, or NONE. */
+static inline unsigned place_of(const table *t, const uint8_t *sheet, const uint8_t *name, size_t length,
+                                uint32_t hash) {
+    unsigned i = t->head[hash & t->mask];
+    for (; i != NONE; i = t->entry[i].next) {
+        const uint8_t *record = sheet + t->entry[i].at;
+        if (t->entry[i].hash == hash && record[0] == length && !memcmp(record + 1, name, length))
+            return i;
+    }
+    return NONE;
+}
+
+/* Adds the record whose length byte stands at `at`; 0 where an equal name is there already. */
+static inline int add(table *t, const uint8_t *sheet, uint32_t at) {
+    const uint8_t *name = sheet + at + 1;
+    size_t length = sheet[at];
+    uint32_t hash = hash_of(name, length);
+    if (place_of(t, sheet, name, length, hash) != NONE)
+        return 0;
+    uint16_t *head = &t->head[hash & t->mask];
+    t->entry[t->count].hash = hash;
+    t->entry[t->count].at = at;
+    t->entry[t->count].next = *head;
+    *head = (uint16_t)t->count++;
+    return 1;
+}
+
+static uint64_t number_at(const uint8_t *from) {
+    uint64_t number = 0;
+    for (int i = 0; i < 8; i++)
+        number = number << 8 | from[i];
+    return number;
+}
+
+/* The refusal of the record at *at, or 0 with *at moved past it. */
+static inline uint32_t check_record(table *t, const uint8_t *sheet, size_t n, size_t *at) {
+    if (*at >= n)
+        return 4;
+    size_t length = sheet[*at];
+    if (length == 0 || length > 40)
+        return 5;
+    if (n - *at < 1 + length + 17)
+        return 4;
+    uint8_t kind = sheet[*at + 1 + length];
+    if (kind != 1 && kind != 2)
+        return 6;
+    if (!add(t, sheet, (uint32_t)*at))
+        return 16;
+    *at += 1 + length + 17;
+    return 0;
+}
+
+static void prepare(table *t, unsigned count) {
+    unsigned slots = 16;
+    while (slots < 2 * count && slots < SLOTS)
+        slots *= 2;
+    t->count = 0;
+    t->mask = slots - 1;
+    memset(t->head, 0xff, slots * sizeof *t->head);
+}
+
+static uint32_t fill(table *t, const uint8_t *sheet, size_t n) {
+    if (n > 65536)
+        return 1;
+    if (n < 7 || memcmp(sheet, "EAS", 3))
+        return 2;
+    if (sheet[3] != 0 || sheet[4] != 1)
+        return 3;
+    unsigned left = (unsigned)sheet[5] << 8 | sheet[6];
+    prepare(t, left);
+    size_t at = 7;
+    for (; left > 0; left--) {
+        uint32_t number = check_record(t, sheet, n, &at);
+        if (number)
+            return number;
+    }
+    return at == n ? 0 : 4;
+}
+
+uint32_t baseline_check(const uint8_t *sheet, size_t n) {
+    table t;
+    return fill(&t, sheet, n);
+}
+
+/* Reads a spelled name and finds it among the names of an accepted sheet. */
+static eas_record look_up(const table *t, const uint8_t *sheet, const uint8_t *spelled, size_t m) {
+    uint8_t name[40];
+    eas_text read = baseline_read(spelled, m, name);
+    if (read.number)
+        return (eas_record){.number = read.number};
+    unsigned i = place_of(t, sheet, name, read.length, hash_of(name, read.length));
+    if (i == NONE)
+        return (eas_record){.number = 9};
+    const uint8_t *rest = sheet + t->entry[i].at + 1 + read.length;
+    return (eas_record){0, rest[0], number_at(rest + 1), number_at(rest + 9), t->entry[i].at + 1, read.length};
+}
+
+eas_record baseline_find(const uint8_t *sheet, size_t n, const uint8_t *spelled, size_t m) {
+    table t;
+    uint32_t number = fill(&t, sheet, n);
+    return number ? (eas_record){.number = number} : look_up(&t, sheet, spelled, m);
+}
+
+static int stands_for_itself(uint8_t c) {
+    return (c >= 'a' && c <= 'z') || (c >= 'A' && c <= 'Z') || (c >= '0' && c <= '9') || c == '-' || c == '.' ||
+           c == '_' || c == '~';
+}
+
+static int digit_of(uint8_t c) {
+    return c >= '0' && c <= '9'   ? c - '0'
+           : c >= 'A' && c <= 'F' ? c - 'A' + 10
+           : c >= 'a' && c <= 'f' ? c - 'a' + 10
+                                  : -1;
+}
+
+eas_text baseline_read(const uint8_t *spelled, size_t n, uint8_t name[40]) {
+    uint8_t decoded[40];
+    size_t length = 0;
+    for (size_t i = 0; i < n; i++) {
+        int byte = spelled[i];
+        if (byte == '%') {
+            if (n - i < 3 || digit_of(spelled[i + 1]) < 0 || digit_of(spelled[i + 2]) < 0)
+                return (eas_text){7, 0};
+            byte = digit_of(spelled[i + 1]) * 16 + digit_of(spelled[i + 2]);
+            i += 2;
+        } else if (!stands_for_itself(spelled[i])) {
+            return (eas_text){7, 0};
+        }
+        if (length < sizeof decoded)
+            decoded[length] = (uint8_t)byte;
+        length++;
+    }
+    if (length == 0 || length > sizeof decoded)
+        return (eas_text){8, 0};
+    memcpy(name, decoded, length);
+    return (eas_text){0, length};
+}
+
+eas_text baseline_spell(const uint8_t *name, size_t n, uint8_t *out, size_t room) {
+    static const char digits[] = "0123456789ABCDEF";
+    uint8_t text[120];
+    size_t length = 0;
+    if (n == 0 || n > 40)
+        return (eas_text){8, 0};
+    for (size_t i = 0; i < n; i++) {
+        if (stands_for_itself(name[i])) {
+            text[length++] = name[i];
+            continue;
+        }
+        text[length++] = '%';
+        text[length++] = (uint8_t)digits[name[i] >> 4];
+        text[length++] = (uint8_t)digits[name[i] & 15];
+    }
+    if (length > room)
+        return (eas_text){14, 0};
+    memcpy(out, text, length);
+    return (eas_text){0, length};
+}
+
+static baseline_answer temperature(uint64_t pressure, uint64_t density) {
+    double x = log10((double)pressure / 101330000000.0), y = log10((double)density / 129200000000.0);
+    baseline_answer a = {0, 'T', y, x - y, 0};
+    if (a.z < -1 || a.z > 3) {
+        a.number = 12;
+    } else if (a.z <= 0.25) {
+        a.value = (double)pressure * 1e13 / (28706.0 * (double)density);
+    } else {
+        double fit = tgas1_fit(tgas1_parts(tgas_band(a.y), a.y, a.z));
+        a.number = fit < 0 || fit > 1.96 ? 13 : 0;
+        a.value = 273150000.0 * pow(10, fit);
+    }
+    return a;
+}
+
+static int within_limit(double y, double z) {
+    int band = tgas_band(y);
+    return z <= (band == LOW ? 3.69 : band == MIDDLE ? 3.4 : 3.0);
+}
+
+static baseline_answer entropy(uint64_t energy, uint64_t density) {
+    double y = log10((double)density / 129200000000.0), z = log10((double)energy / 78408400.0);
+    double above = fabs(y + 4.5) < 0.025 ? -4.475 : fabs(y + 0.5) < 0.005 ? -0.495 : y;
+    baseline_answer a = {0, 'S', y, z, 0};
+    if (within_limit(above, z))
+        a.value = 1e4 * tgas2_joined(y, z);
+    else
+        a.number = 12;
+    return a;
+}
+
+static baseline_answer evaluate(uint8_t kind, uint64_t first, uint64_t second) {
+    if (kind != 1 && kind != 2)
+        return (baseline_answer){.number = 6};
+    if (kind == 1 ? first < 1 || first > 100000000000000000u : first < 7840840 || first > 1000000000000u)
+        return (baseline_answer){.number = 10};
+    if (second < 12920 || second > 129200000000000u)
+        return (baseline_answer){.number = 11};
+    return kind == 1 ? temperature(first, second) : entropy(first, second);
+}
+
+static baseline_answer answer_of(eas_record record) {
+    if (record.number)
+        return (baseline_answer){.number = record.number};
+    return evaluate((uint8_t)record.kind, record.first, record.second);
+}
+
+baseline_answer baseline_search(const uint8_t *sheet, size_t n, const uint8_t *spelled, size_t m) {
+    return answer_of(baseline_find(sheet, n, spelled, m));
+}
+
+static size_t write_line(const uint8_t *spelled, size_t m, baseline_answer a, char out[192]) {
+    uint8_t name[40], text[121] = "?";
+    eas_text read = baseline_read(spelled, m, name);
+    if (!read.number)
+        text[baseline_spell(name, read.length, text, 120).length] = 0;
+    if (a.number)
+        return (size_t)snprintf(out, 192, "%s ! %u\n", (char *)text, a.number);
+    return (size_t)snprintf(out, 192, "%s %c %lld %lld %lld\n", (char *)text, a.letter, llrint(1e6 * a.y),
+                            llrint(1e6 * a.z), (long long)floor(a.value));
+}
+
+size_t baseline_line(const uint8_t *sheet, size_t n, const uint8_t *spelled, size_t m, char out[192]) {
+    return write_line(spelled, m, baseline_search(sheet, n, spelled, m), out);
+}
+
+void baseline_listing(const uint8_t *sheet, size_t n, const uint8_t *names, size_t length, FILE *out) {
+    table t;
+    char line[192];
+    uint32_t number = fill(&t, sheet, n);
+    if (number || length > 65536) {
+        fprintf(out, number ? "sheet ! %u\n" : "list ! 15\n", number);
+        return;
+    }
+    for (size_t at = 0; at < length;) {
+        const uint8_t *name = names + at, *end = memchr(name, '\n', length - at);
+        size_t m = end ? (size_t)(end - name) : length - at;
+        fwrite(line, 1, write_line(name, m, answer_of(look_up(&t, sheet, name, m)), line), out);
+        at += m + 1;
+    }
+}

@@ -1,0 +1,364 @@
+/* bench [STATES [LISTING-PROGRAM]]: times the library and a plain C baseline side by side and prints a Markdown table.
+ *
+ * Temperature and entropy are measured against the listing in doubles with libm, the rest against a calculator in plain
+ * C that makes the same checks and finds names by chained hashing. Each row is the median of several repetitions, in
+ * which library and baseline take turns, and nothing is judged by time. With a listing program given, that program is
+ * run on 3,000 names against this one run as a listing. */
+#define _DEFAULT_SOURCE
+#include <fcntl.h>
+#include <math.h>
+#include <stdlib.h>
+#include <string.h>
+#include <sys/resource.h>
+#include <sys/wait.h>
+#include <time.h>
+#include <unistd.h>
+
+#include "baseline.h"
+#include "common.h"
+#include "tgas.h"
+
+enum { REPETITIONS = 9, NAMES = 3000 };
+
+typedef struct {
+    uint64_t first, second;
+} pair;
+
+typedef struct {
+    const uint8_t *bytes;
+    size_t length;
+} text;
+
+static size_t states;
+static pair *temperatures, *entropies;
+static uint8_t small_sheet[SHEET_MOST + 1], full_sheet[SHEET_MOST];
+static size_t small_size, full_size;
+static text small_names[3], full_names[NAMES];
+static uint8_t name_list[SHEET_MOST + 1];
+static size_t name_list_size;
+static volatile double sink;
+
+/* A random number from 0 to below 1. */
+static double uniform(void) {
+    static uint64_t seed = 20260101;
+    seed ^= seed << 13;
+    seed ^= seed >> 7;
+    seed ^= seed << 17;
+    return (double)(seed >> 11) / 9007199254740992.0;
+}
+
+/* Two thirds of the temperatures are fitted; every state is accepted. */
+static void make_states(void) {
+    temperatures = malloc(states * sizeof *temperatures);
+    entropies = malloc(states * sizeof *entropies);
+    if (!temperatures || !entropies)
+        exit(1);
+    for (size_t i = 0; i < states;) {
+        double y = -7 + 10 * uniform(), z = i % 3 ? 0.2500015 + 2.3 * uniform() : -0.99 + 1.23 * uniform();
+        pair p = {(uint64_t)llround(101330000000.0 * pow(10, y + z)), (uint64_t)llround(129200000000.0 * pow(10, y))};
+        temperatures[i] = p;
+        i += eas_evaluate(1, p.first, p.second).number == 0;
+    }
+    for (size_t i = 0; i < states;) {
+        double y = -7 + 10 * uniform(), z = -0.99 + 4.6 * uniform();
+        pair p = {(uint64_t)llround(78408400.0 * pow(10, z)), (uint64_t)llround(129200000000.0 * pow(10, y))};
+        entropies[i] = p;
+        i += eas_evaluate(2, p.first, p.second).number == 0;
+    }
+}
+
+static size_t put_record(uint8_t *sheet, size_t at, const uint8_t *name, size_t length, uint8_t kind, pair p) {
+    sheet[at] = (uint8_t)length;
+    memcpy(sheet + at + 1, name, length);
+    sheet[at + 1 + length] = kind;
+    put_number(sheet + at + 2 + length, 8, p.first);
+    put_number(sheet + at + 10 + length, 8, p.second);
+    return at + 1 + length + 17;
+}
+
+static void put_head(uint8_t *sheet, unsigned count) {
+    memcpy(sheet, "EAS\0\1", 5);
+    put_number(sheet + 5, 2, count);
+}
+
+static void make_small_sheet(void) {
+    static const char *const names[] = {"nose/cap 1", "42", "hot"}, *const spelled[] = {"nose%2Fcap%201", "42", "hot"};
+    size_t at = HEAD;
+    for (int i = 0; i < 3; i++) {
+        at = put_record(small_sheet, at, (const uint8_t *)names[i], strlen(names[i]), 1, temperatures[i]);
+        small_names[i] = (text){(const uint8_t *)spelled[i], strlen(spelled[i])};
+    }
+    put_head(small_sheet, 3);
+    small_size = at;
+}
+
+/* The most records that fit: every name of one byte, then names of two. */
+static void make_full_sheet(void) {
+    size_t at = HEAD;
+    unsigned count = 0;
+    while (at + (count < 256 ? 19u : 20u) <= SHEET_MOST) {
+        uint8_t name[2] = {(uint8_t)count, 0};
+        size_t length = count < 256 ? 1 : 2;
+        put_number(name, (int)length, count < 256 ? count : count - 256);
+        int temperature = count % 2 == 0;
+        pair p = temperature ? temperatures[count % states] : entropies[count % states];
+        at = put_record(full_sheet, at, name, length, temperature ? 1 : 2, p);
+        count++;
+    }
+    put_head(full_sheet, count);
+    full_size = at;
+}
+
+/* 3,000 of the fullest sheet's names, spelled, each on a line, in an order that is not the sheet's. */
+static void make_names(void) {
+    size_t at = HEAD, used = 0;
+    unsigned count = record_count(full_sheet), kept = 0;
+    static uint8_t spelled[NAMES][SPELLED_MOST];
+    for (unsigned i = 0; i < count && kept < NAMES; i++) {
+        state s = next_state(full_sheet, &at);
+        unsigned place = (unsigned)((uint64_t)kept++ * 1237 % NAMES);
+        memcpy(spelled[place], s.spelled, s.spelled_length);
+        full_names[place] = (text){spelled[place], s.spelled_length};
+    }
+    for (unsigned i = 0; i < NAMES; i++) {
+        memcpy(name_list + used, full_names[i].bytes, full_names[i].length);
+        used += full_names[i].length;
+        name_list[used++] = '\n';
+    }
+    name_list_size = used;
+}
+
+static double library_temperature(void) {
+    double sum = 0;
+    for (size_t i = 0; i < states; i++)
+        sum += (double)eas_evaluate(1, temperatures[i].first, temperatures[i].second).value;
+    return sum;
+}
+
+static double listing_temperature(void) {
+    double sum = 0;
+    for (size_t i = 0; i < states; i++)
+        sum += tgas1_temperature(temperatures[i].first, temperatures[i].second);
+    return sum;
+}
+
+static double library_entropy(void) {
+    double sum = 0;
+    for (size_t i = 0; i < states; i++)
+        sum += (double)eas_evaluate(2, entropies[i].first, entropies[i].second).value;
+    return sum;
+}
+
+static double listing_entropy(void) {
+    double sum = 0;
+    for (size_t i = 0; i < states; i++)
+        sum += tgas2_entropy(entropies[i].first, entropies[i].second);
+    return sum;
+}
+
+enum { SMALL_CALLS = 30000, FULL_CALLS = 300 };
+
+static double library_search_small(void) {
+    double sum = 0;
+    for (int i = 0; i < SMALL_CALLS; i++)
+        sum += (double)eas_search(small_sheet, small_size, small_names[i % 3].bytes, small_names[i % 3].length).value;
+    return sum;
+}
+
+static double baseline_search_small(void) {
+    double sum = 0;
+    for (int i = 0; i < SMALL_CALLS; i++)
+        sum += baseline_search(small_sheet, small_size, small_names[i % 3].bytes, small_names[i % 3].length).value;
+    return sum;
+}
+
+static double library_search_full(void) {
+    double sum = 0;
+    for (int i = 0; i < FULL_CALLS; i++)
+        sum += (double)eas_search(full_sheet, full_size, full_names[i].bytes, full_names[i].length).value;
+    return sum;
+}
+
+static double baseline_search_full(void) {
+    double sum = 0;
+    for (int i = 0; i < FULL_CALLS; i++)
+        sum += baseline_search(full_sheet, full_size, full_names[i].bytes, full_names[i].length).value;
+    return sum;
+}
+
+static double library_line(void) {
+    uint8_t line[LINE_MOST];
+    double sum = 0;
+    for (int i = 0; i < SMALL_CALLS; i++) {
+        text name = small_names[i % 3];
+        sum += (double)eas_line(small_sheet, small_size, name.bytes, name.length, line, sizeof line).length;
+    }
+    return sum;
+}
+
+static double plain_line(void) {
+    char line[LINE_MOST];
+    double sum = 0;
+    for (int i = 0; i < SMALL_CALLS; i++)
+        sum +=
+            (double)baseline_line(small_sheet, small_size, small_names[i % 3].bytes, small_names[i % 3].length, line);
+    return sum;
+}
+
+static double library_lines(void) {
+    uint8_t line[LINE_MOST];
+    double sum = 0;
+    for (int i = 0; i < NAMES; i++)
+        sum += (double)eas_line(full_sheet, full_size, full_names[i].bytes, full_names[i].length, line, sizeof line)
+                   .length;
+    return sum;
+}
+
+static double plain_lines(void) {
+    char line[LINE_MOST];
+    double sum = 0;
+    for (int i = 0; i < NAMES; i++)
+        sum += (double)baseline_line(full_sheet, full_size, full_names[i].bytes, full_names[i].length, line);
+    return sum;
+}
+
+static const char *program, *self;
+
+/* Runs a program in the current folder, names from the file `names`, output thrown away. */
+static double run(const char *path, const char *argument) {
+    pid_t child = fork();
+    if (child == 0) {
+        int in = open("names", O_RDONLY), out = open("/dev/null", O_WRONLY);
+        if (in < 0 || out < 0 || dup2(in, 0) < 0 || dup2(out, 1) < 0)
+            _exit(127);
+        execl(path, path, argument, (char *)NULL);
+        _exit(127);
+    }
+    int status = 1;
+    if (child < 0 || waitpid(child, &status, 0) < 0 || status != 0) {
+        fprintf(stderr, "bench: %s cannot be run\n", path);
+        exit(1);
+    }
+    return 0;
+}
+
+static double library_program(void) {
+    return run(program, NULL);
+}
+
+static double plain_program(void) {
+    return run(self, "--listing");
+}
+
+/* What the listing program does, in plain C. */
+static int be_the_listing(void) {
+    FILE *file = fopen("sheet.eas", "rb");
+    size_t n = file ? read_sheet(file, small_sheet) : 0;
+    size_t length = fread(name_list, 1, sizeof name_list, stdin);
+    baseline_listing(small_sheet, n, name_list, length, stdout);
+    return 0;
+}
+
+typedef struct {
+    const char *what, *unit;
+    double (*library)(void), (*baseline)(void);
+    double calls, per_second; /* calls a repetition; units a second */
+} row;
+
+/* Processor seconds of this process and of the programs that it ran, so that other work on the machine counts little.
+ */
+static double processor_seconds(void) {
+    struct timespec own;
+    struct rusage ran;
+    clock_gettime(CLOCK_PROCESS_CPUTIME_ID, &own);
+    getrusage(RUSAGE_CHILDREN, &ran);
+    return (double)(own.tv_sec + ran.ru_utime.tv_sec + ran.ru_stime.tv_sec) + (double)own.tv_nsec * 1e-9 +
+           (double)(ran.ru_utime.tv_usec + ran.ru_stime.tv_usec) * 1e-6;
+}
+
+static double seconds(double (*work)(void)) {
+    double from = processor_seconds();
+    sink = work();
+    return processor_seconds() - from;
+}
+
+static int by_size(const void *a, const void *b) {
+    double x = *(const double *)a, y = *(const double *)b;
+    return (x > y) - (x < y);
+}
+
+/* The middle, the least and the most of sorted times, with three digits or more. */
+static void print_times(const double times[REPETITIONS]) {
+    int digits = times[0] < 10 ? 2 : times[0] < 100 ? 1 : 0;
+    printf("| %.*f (%.*f to %.*f) ", digits, times[REPETITIONS / 2], digits, times[0], digits, times[REPETITIONS - 1]);
+}
+
+static void measure(const row *r) {
+    double library[REPETITIONS], baseline[REPETITIONS], scale = r->per_second / r->calls;
+    sink = r->library() + r->baseline();
+    for (int i = 0; i < REPETITIONS; i++) {
+        library[i] = scale * seconds(r->library);
+        baseline[i] = scale * seconds(r->baseline);
+    }
+    qsort(library, REPETITIONS, sizeof *library, by_size);
+    qsort(baseline, REPETITIONS, sizeof *baseline, by_size);
+    printf("| %s, %s ", r->what, r->unit);
+    print_times(library);
+    print_times(baseline);
+    printf("| %.2f |\n", library[REPETITIONS / 2] / baseline[REPETITIONS / 2]);
+    fflush(stdout);
+}
+
+static void write_file(const char *path, const uint8_t *bytes, size_t n) {
+    FILE *file = fopen(path, "wb");
+    if (!file || fwrite(bytes, 1, n, file) != n || fclose(file))
+        exit(1);
+}
+
+/* Runs both listings in a folder of their own. */
+static void measure_program(const char *path) {
+    static const row r = {"the listing program, 3,000 names", "ms", library_program, plain_program, 1, 1e3};
+    char folder[] = "/tmp/bench-XXXXXX", full[4096], own[4096];
+    if (!realpath(path, full) || !realpath("/proc/self/exe", own) || !mkdtemp(folder) || chdir(folder)) {
+        fprintf(stderr, "bench: %s cannot be run\n", path);
+        exit(1);
+    }
+    program = full;
+    self = own;
+    write_file("sheet.eas", full_sheet, full_size);
+    write_file("names", name_list, name_list_size);
+    measure(&r);
+    unlink("sheet.eas");
+    unlink("names");
+    rmdir(folder);
+}
+
+int main(int argc, char **argv) {
+    if (argc == 2 && !strcmp(argv[1], "--listing"))
+        return be_the_listing();
+    states = argc > 1 ? strtoul(argv[1], NULL, 10) : 1000000;
+    if (states < 3)
+        return 2;
+    make_states();
+    make_small_sheet();
+    make_full_sheet();
+    make_names();
+    const row rows[] = {
+        {"temperature", "ns", library_temperature, listing_temperature, (double)states, 1e9},
+        {"entropy", "ns", library_entropy, listing_entropy, (double)states, 1e9},
+        {"search, sheet of 3 states", "ns", library_search_small, baseline_search_small, SMALL_CALLS, 1e9},
+        {"search, fullest sheet", "µs", library_search_full, baseline_search_full, FULL_CALLS, 1e6},
+        {"listing line, sheet of 3 states", "ns", library_line, plain_line, SMALL_CALLS, 1e9},
+        {"3,000 listing lines, fullest sheet", "ms", library_lines, plain_lines, 1, 1e3},
+    };
+    printf(
+        "%zu temperatures, two thirds fitted, and as many entropies; the fullest sheet has %u states in %zu bytes.\n",
+        states, record_count(full_sheet), full_size);
+    printf("Processor time: median of %d repetitions (least to most).\n\n", REPETITIONS);
+    printf("| what | library | plain C | ratio |\n|---|---|---|---|\n");
+    for (size_t i = 0; i < sizeof rows / sizeof *rows; i++)
+        measure(&rows[i]);
+    if (argc > 2)
+        measure_program(argv[2]);
+    return 0;
+}

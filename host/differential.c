@@ -1,0 +1,20 @@
+/* Compares the library with the reference on edge and random inputs.
+ *
+ * differential [seed [count]]: count is the number of states, of sheets and of spellings, 200,000 by default. A case
+ * depends on the seed and its index alone, so that a failure is repeated by giving its seed. */
+#include "differential.h"
+
+#include <stdlib.h>
+
+#include "tally.h"
+
+int main(int count, char **arguments)
+{
+    uint64_t seed = count > 1 ? strtoull(arguments[1], NULL, 10) : 20260101;
+    uint64_t cases = count > 2 ? strtoull(arguments[2], NULL, 10) : 200000;
+    tally_start("differential", seed);
+    compare_states(seed, cases);
+    compare_sheets(seed, cases);
+    compare_spellings(seed, cases);
+    return tally_end();
+}

@@ -1,0 +1,11 @@
+/* The parts of the differential test. */
+#ifndef HOST_DIFFERENTIAL_H
+#define HOST_DIFFERENTIAL_H
+
+#include <stdint.h>
+
+void compare_states(uint64_t seed, uint64_t count);
+void compare_sheets(uint64_t seed, uint64_t count);
+void compare_spellings(uint64_t seed, uint64_t count);
+
+#endif

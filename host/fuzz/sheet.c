@@ -1,0 +1,199 @@
+/* Fuzz driver for eas_check, eas_find, eas_search, eas_plot, eas_line and eas_evaluate.
+ *
+ * An input is: one byte of options, one byte with the length of a spelled name, the spelled name, and a sheet.
+ *   option 1  the sheet's mark, version and count are put right
+ *   option 2  each record's kind is made 1 or 2
+ *   option 4  each record's values are brought into their ranges
+ *   option 8  the spelled name is that of a record, chosen by the length byte
+ *   all eight options set: records are added up to the largest sheet or just past it
+ *
+ * Sheets and records are compared with the plain C calculator, answers judged by the listing's doubles. */
+#include <math.h>
+#include <stdlib.h>
+#include <string.h>
+
+#include "../baseline.h"
+#include "../common.h"
+#include "guard.h"
+#include "judge.h"
+
+static guard sheet_guard, spelled_guard, output_guard;
+
+/* An input as the library gets it. */
+typedef struct {
+    const uint8_t *sheet, *spelled;
+    size_t n, m;
+} query;
+
+static int whole_record(const uint8_t *sheet, size_t n, size_t at) {
+    return at < n && sheet[at] > 0 && sheet[at] <= NAME_MOST && n - at >= 1u + sheet[at] + 17u;
+}
+
+static void repair_head(uint8_t *sheet, size_t n) {
+    static const uint8_t head[] = {'E', 'A', 'S', 0, 1};
+    unsigned count = 0;
+    memcpy(sheet, head, sizeof head);
+    for (size_t at = HEAD; whole_record(sheet, n, at); at += 1u + sheet[at] + 17u)
+        count++;
+    put_number(sheet + 5, 2, count);
+}
+
+static void repair_range(uint8_t *at, uint64_t least, uint64_t most) {
+    uint64_t number = get_number(at, 8), span = most - least + 1;
+    if (number < least || number > most)
+        put_number(at, 8, least + number % span);
+}
+
+static void repair_records(uint8_t *sheet, size_t n, unsigned options) {
+    for (size_t at = HEAD; whole_record(sheet, n, at); at += 1u + sheet[at] + 17u) {
+        uint8_t *rest = sheet + at + 1 + sheet[at];
+        if (options & 2 && rest[0] != 1 && rest[0] != 2)
+            rest[0] = rest[0] % 2 + 1;
+        if (!(options & 4))
+            continue;
+        if (rest[0] == 1)
+            repair_range(rest + 1, 1, 100000000000000000u);
+        else
+            repair_range(rest + 1, 7840840, 1000000000000u);
+        repair_range(rest + 9, 12920, 129200000000000u);
+    }
+}
+
+/* Appends records with names of two bytes until `most` is reached; returns the new length. */
+static size_t enlarge(uint8_t *sheet, size_t n, size_t most) {
+    static const uint8_t rest[17] = {1, 0, 0, 0, 0x17, 0x97, 0xbd, 0x18, 0x80, 0, 0, 0, 0x1e, 0x14, 0xeb, 0x8c, 0};
+    size_t at = HEAD;
+    while (whole_record(sheet, n, at))
+        at += 1u + sheet[at] + 17u;
+    for (unsigned name = 0; at + 20 <= most; name++, at += 20) {
+        sheet[at] = 2;
+        put_number(sheet + at + 1, 2, name);
+        memcpy(sheet + at + 3, rest, sizeof rest);
+    }
+    return at;
+}
+
+/* The spelling of the record that `choice` picks, or nothing. */
+static size_t pick_name(const uint8_t *sheet, size_t n, uint8_t choice, uint8_t spelled[SPELLED_MOST]) {
+    unsigned count = 0;
+    for (size_t at = HEAD; whole_record(sheet, n, at); at += 1u + sheet[at] + 17u)
+        count++;
+    unsigned left = count ? choice % count : 0;
+    for (size_t at = HEAD; whole_record(sheet, n, at); at += 1u + sheet[at] + 17u)
+        if (left-- == 0)
+            return baseline_spell(sheet + at + 1, sheet[at], spelled, SPELLED_MOST).length;
+    return 0;
+}
+
+static void check_find(query q, const eas_record *found) {
+    uint8_t name[NAME_MOST];
+    eas_record plain = baseline_find(q.sheet, q.n, q.spelled, q.m);
+    require(found->number == plain.number, "eas_find's number is the plain search's");
+    require(found->kind == plain.kind && found->first == plain.first && found->second == plain.second,
+            "a record's values");
+    require(found->start == plain.start && found->length == plain.length, "where a name stands");
+    if (found->number)
+        return;
+    eas_text read = eas_read(q.spelled, q.m, name);
+    require(!read.number && read.length == found->length, "a found name has its spelling's length");
+    require(!memcmp(q.sheet + found->start, name, read.length), "the part of the sheet handed back holds the name");
+}
+
+static void check_mark(query q, const eas_answer *a) {
+    eas_mark mark = eas_plot(q.sheet, q.n, q.spelled, q.m);
+    require(mark.blank == a->number, "a mark is blank exactly where the search refuses");
+    double across = a->number ? 0 : (double)a->y + 7000000, up = a->number ? 0 : (double)a->value;
+    require(mark.point.across == across && mark.point.up == up, "a mark's point");
+}
+
+/* The listing line that belongs to an answer. Where the sheet is refused only the number is compared. */
+static int line_agrees(query q, const eas_answer *a, const char *line, size_t length) {
+    uint8_t name[NAME_MOST];
+    char expected[256], spelled[SPELLED_MOST + 1] = "?";
+    eas_text read = eas_read(q.spelled, q.m, name);
+    if (!read.number)
+        spelled[eas_spell(name, read.length, (uint8_t *)spelled, SPELLED_MOST).length] = 0;
+    int sheet_refused = eas_check(q.sheet, q.n) != 0;
+    if (a->number)
+        snprintf(expected, sizeof expected, "%s ! %u\n", sheet_refused ? "" : spelled, a->number);
+    else
+        snprintf(expected, sizeof expected, "%s %c %lld %lld %lld\n", spelled, (char)a->letter, (long long)a->y,
+                 (long long)a->z, (long long)a->value);
+    size_t wanted = strlen(expected);
+    if (sheet_refused)
+        return length >= wanted && !memcmp(line + length - wanted, expected, wanted);
+    return length == wanted && !memcmp(line, expected, wanted);
+}
+
+static void check_line(query q, const eas_answer *a) {
+    uint8_t *whole = guard_take(&output_guard, NULL, LINE_MOST);
+    eas_text text = eas_line(q.sheet, q.n, q.spelled, q.m, whole, LINE_MOST);
+    require(text.number == 0 && text.length <= LINE_MOST, "a listing line fits 192 bytes");
+    require(line_agrees(q, a, (char *)whole, text.length), "a listing line shows the answer");
+    require(guard_kept(&output_guard, LINE_MOST, text.length), "eas_line writes a prefix only");
+    uint8_t kept[LINE_MOST];
+    memcpy(kept, whole, text.length);
+    uint8_t *exact = guard_take(&output_guard, NULL, text.length);
+    eas_text again = eas_line(q.sheet, q.n, q.spelled, q.m, exact, text.length);
+    require(again.number == 0 && again.length == text.length && !memcmp(exact, kept, text.length),
+            "a line of exact room");
+    size_t room = text.length - 1;
+    eas_text cut = eas_line(q.sheet, q.n, q.spelled, q.m, guard_take(&output_guard, NULL, room), room);
+    require(cut.number == 14 && cut.length == 0 && guard_kept(&output_guard, room, 0),
+            "a line without room is refused");
+}
+
+static void check_query(query q) {
+    uint32_t number = eas_check(q.sheet, q.n);
+    require(number == baseline_check(q.sheet, q.n), "eas_check's number is the plain check's");
+    eas_record found = eas_find(q.sheet, q.n, q.spelled, q.m);
+    check_find(q, &found);
+    eas_answer a = eas_search(q.sheet, q.n, q.spelled, q.m), again = eas_search(q.sheet, q.n, q.spelled, q.m);
+    require(same_answer(&a, &again), "a repeated search gives the same");
+    eas_answer direct = {.number = found.number};
+    if (!found.number)
+        direct = eas_evaluate((uint8_t)found.kind, found.first, found.second);
+    require(same_answer(&a, &direct), "a search's answer is its record's");
+    if (!found.number)
+        judge((uint8_t)found.kind, found.first, found.second, &a);
+    check_mark(q, &a);
+    check_line(q, &a);
+}
+
+/* A state outside a sheet, of any kind. */
+static void check_state(const uint8_t *bytes, size_t n) {
+    if (n < 17)
+        return;
+    uint64_t first = get_number(bytes + 1, 8), second = get_number(bytes + 9, 8);
+    eas_answer a = eas_evaluate(bytes[0], first, second);
+    judge(bytes[0], first, second, &a);
+}
+
+int LLVMFuzzerTestOneInput(const uint8_t *data, size_t size);
+
+int LLVMFuzzerTestOneInput(const uint8_t *data, size_t size) {
+    static uint8_t sheet[ROOM_MOST];
+    uint8_t picked[SPELLED_MOST];
+    if (size < 2 || size - 2 < data[1] || size > SHEET_MOST)
+        return 0;
+    unsigned options = data[0];
+    const uint8_t *spelled = data + 2;
+    size_t m = data[1], n = size - 2 - m;
+    memcpy(sheet, spelled + m, n);
+    if (options & 1 && n >= HEAD) {
+        if (options == 255)
+            n = enlarge(sheet, n, SHEET_MOST + (data[1] & 1) * 20u);
+        repair_head(sheet, n);
+        repair_records(sheet, n, options);
+    }
+    if (options & 8) {
+        m = pick_name(sheet, n, data[1], picked);
+        spelled = picked;
+    }
+    query q = {guard_take(&sheet_guard, sheet, n), guard_take(&spelled_guard, spelled, m), n, m};
+    check_query(q);
+    check_state(sheet, n);
+    require(n == 0 || !memcmp(q.sheet, sheet, n), "no call changes the sheet");
+    require(m == 0 || !memcmp(q.spelled, spelled, m), "no call changes the spelling");
+    return 0;
+}

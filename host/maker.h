@@ -1,0 +1,65 @@
+/* Makes an answer for a state in long doubles: by one of several allowed choices, or as a program with a given mistake
+ * would make it. */
+#ifndef HOST_MAKER_H
+#define HOST_MAKER_H
+
+#include "airstate.h"
+
+typedef enum {
+    NO_MISTAKE,
+    LOGARITHMS_DOWN,
+    LOGARITHMS_UP,
+    WEIGHT_LOWEST,
+    WEIGHT_HIGHEST,
+    TEMPERATURE_LOWEST,
+    TEMPERATURE_HIGHEST,
+    FIRST_MISTAKE, /* those above are allowed */
+    LOGARITHMS_TOO_LOW = FIRST_MISTAKE,
+    LOGARITHMS_TOO_HIGH,
+    WEIGHT_TOO_LOW,
+    WEIGHT_TOO_HIGH,
+    TEMPERATURE_TOO_LOW,
+    TEMPERATURE_TOO_HIGH,
+    FIT_LIMIT_EXCLUDED,
+    FIT_LIMIT_PASSED,
+    EDGE_IN_UPPER_BAND,
+    WEIGHT_ON_A,
+    WEIGHT_OF_OTHER_SIGN,
+    WEIGHT_STUCK_AT_HALF,
+    SERIES_TOO_SHORT,
+    ALL_TOWARD_ZERO,
+    FRACTION_TOWARD_ZERO,
+    MUL_BY_TRUNCATED_SUM,
+    TERMS_SWAPPED,
+    Z_IS_SUM,
+    Z_FROM_RATIO,
+    NEXT_PIECE,
+    PIECE_END_EXCLUDED,
+    PERFECT_END_FITTED,
+    PERFECT_ROUNDED_UP,
+    WINDOW_END_EXCLUDED,
+    TEMPERATURE_CONSTANT,
+    TEMPERATURE_JOINED,
+    SIGN_OF_LATER_LISTING,
+    STRIP_EDGE_INCLUDED,
+    STRIP_LEFT_OUT,
+    JOIN_TOWARD_ZERO,
+    JOIN_TURNED_AROUND,
+    LIMIT_EXCLUDED,
+    LIMIT_OF_OWN_BAND,
+    ENTROPY_END_EXCLUDED,
+    ENTROPY_ONE_ROUNDING,
+    DENSITY_TESTED_FIRST,
+    KIND_TESTED_LAST,
+    RANGE_END_EXCLUDED,
+    REFUSAL_WITHOUT_LOGS,
+    REFUSAL_WITHOUT_FIT,
+    REFUSES_ALWAYS,
+    REFUSES_NEVER,
+    MISTAKES
+} mistake;
+
+const char *mistake_name(mistake m);
+eas_answer make_answer(mistake m, uint8_t kind, uint64_t first, uint64_t second);
+
+#endif

@@ -1,0 +1,28 @@
+/* Judges a whole answer for a state: allowed by document 01 or not. */
+#ifndef REFERENCE_ANSWER_H
+#define REFERENCE_ANSWER_H
+
+#include "airstate.h"
+#include "fit.h"
+
+#define P0 UINT64_C(101330000000)
+#define D0 UINT64_C(129200000000)
+#define E0 UINT64_C(78408400)
+#define T0 UINT64_C(273150000)
+
+/* Ranges of document 01, Quantities. */
+#define P_MIN UINT64_C(1)
+#define P_MAX UINT64_C(100000000000000000)
+#define D_MIN UINT64_C(12920)
+#define D_MAX UINT64_C(129200000000000)
+#define E_MIN UINT64_C(7840840)
+#define E_MAX UINT64_C(1000000000000)
+
+/* Null where the answer is allowed; else a short text that names what is wrong. Beyond each field's own rule this
+ * checks the distances of demand 3 on accepted answers. */
+const char *judge_answer(uint8_t kind, uint64_t first, uint64_t second, const eas_answer *answer);
+
+/* Null where two answers are equal field by field; else the field that differs. */
+const char *answers_differ(const eas_answer *a, const eas_answer *b);
+
+#endif

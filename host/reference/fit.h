@@ -1,0 +1,47 @@
+/* Bands, pieces, the bicubic and the exponent, with document 01's rounding and without any. */
+#ifndef REFERENCE_FIT_H
+#define REFERENCE_FIT_H
+
+#include <stdbool.h>
+#include <stdint.h>
+
+#include "numerals.h"
+#include "wide.h"
+
+typedef enum { LOW_BAND, MIDDLE_BAND, HIGH_BAND } density_band;
+
+/* A strip around a density edge: from lower to upper, both outside of it. */
+typedef struct {
+    int64_t lower, upper;
+} density_strip;
+
+/* Coefficients in units of 10^-10. */
+typedef struct {
+    int label;
+    bool weighed; /* has a B and an exponent */
+    int64_t a[BICUBIC_TERMS], b[BICUBIC_TERMS], exponent[EXPONENT_TERMS];
+} temperature_piece;
+
+enum { PERFECT_LIMIT = 250000, LOWEST_Z = -1000000, HIGHEST_Z = 3000000, ENTROPY_PERFECT_LIMIT = 650000 };
+
+density_band band_of(int64_t y);
+bool strip_of(int64_t y, density_strip *strip);
+int64_t entropy_limit(density_band band);
+
+/* Z above PERFECT_LIMIT, up to HIGHEST_Z. */
+const temperature_piece *piece_at(int64_t y, int64_t z);
+const int64_t *entropy_coefficients(density_band band);
+
+/* Units of 10^-10, each product rounded down. */
+wide bicubic(const int64_t c[BICUBIC_TERMS], int64_t y, int64_t z);
+wide exponent(const int64_t c[EXPONENT_TERMS], int64_t y, int64_t z);
+
+/* A + W·B/10^10, the fraction rounded down; A alone where there is no B. */
+wide fitted(const temperature_piece *piece, int64_t y, int64_t z, int64_t weight);
+
+/* Without rounding: the bicubic in units of 10^-28, the exponent in units of 10^-22. */
+enum { EXACT_EXPONENT_DECIMALS = 22 };
+wide exact_bicubic(const int64_t c[BICUBIC_TERMS], int64_t y, int64_t z);
+wide exact_exponent(const int64_t c[EXPONENT_TERMS], int64_t y, int64_t z);
+
+#endif

@@ -1,0 +1,21 @@
+/* The coefficients that source document 000 prints, digit for digit, and where each piece ends. */
+#ifndef REFERENCE_NUMERALS_H
+#define REFERENCE_NUMERALS_H
+
+#include <stdint.h>
+
+enum { BANDS = 3, PIECES = 4, BICUBIC_TERMS = 10, EXPONENT_TERMS = 4 };
+
+typedef struct {
+    int label;     /* of the listing, 0 where the band has no such piece */
+    int64_t upper; /* last Z of the piece, in millionths */
+    const char *a[BICUBIC_TERMS], *b[BICUBIC_TERMS], *exponent[EXPONENT_TERMS]; /* b[0] is null where there is no B */
+} printed_piece;
+
+extern const printed_piece printed_temperature[BANDS][PIECES];
+extern const char *const printed_entropy[BANDS][BICUBIC_TERMS];
+
+/* A numeral as whole units of 10^-10; ends the program where it is no whole number of them. */
+int64_t numeral_units(const char *numeral);
+
+#endif

@@ -1,0 +1,21 @@
+/* Document 01, State sheet: the first refusal of a sheet, its records, and a search by spelled name. */
+#ifndef REFERENCE_SHEET_H
+#define REFERENCE_SHEET_H
+
+#include "airstate.h"
+
+/* A record has at least 19 bytes. */
+enum { SHEET_MAX_BYTES = 65536, SHEET_MAX_RECORDS = (SHEET_MAX_BYTES - 7) / 19 };
+
+typedef struct {
+    uint32_t number; /* 0, or 1 to 6, or 16; then count is 0 */
+    size_t count;
+    eas_record records[SHEET_MAX_RECORDS];
+} parsed_sheet;
+
+void sheet_parse(parsed_sheet *out, const uint8_t *sheet, size_t n);
+
+/* What a search finds; refused, every field but the number is 0. */
+eas_record sheet_find(const parsed_sheet *parsed, const uint8_t *sheet, const uint8_t *spelled, size_t m);
+
+#endif

@@ -1,0 +1,178 @@
+/* stack: measures how much stack each entry of the library uses at most, and fails where one uses 128 KB or more.
+ *
+ * Each call runs on a thread that first fills the rest of its stack with marked bytes; the deepest byte that changed
+ * tells the use, to within the caller's own frame. */
+#define _DEFAULT_SOURCE
+#include <pthread.h>
+#include <stdlib.h>
+#include <string.h>
+#include <sys/mman.h>
+
+#include "common.h"
+
+enum { STACK = 1 << 20, MARK = 0xA7, MOST = 128 * 1024, OWN = 512, SHEETS = 5 };
+
+typedef struct {
+    uint8_t bytes[SHEET_MOST + 20];
+    size_t n;
+    int accepted;
+} sheet;
+
+static sheet sheets[SHEETS];
+static const char *const names[] = {
+    "%00", "%00%00", "%41", "absent", "a%2", "", "01234567890123456789012345678901234567890"};
+enum { NAMES = sizeof names / sizeof *names };
+
+/* What the running thread works on. */
+static const sheet *current;
+static const uint8_t *spelled;
+static size_t spelled_length;
+
+static volatile uint64_t sink;
+
+static void call_check(void) {
+    sink = eas_check(current->bytes, current->n);
+}
+
+static void call_find(void) {
+    sink = eas_find(current->bytes, current->n, spelled, spelled_length).start;
+}
+
+static void call_search(void) {
+    sink = (uint64_t)eas_search(current->bytes, current->n, spelled, spelled_length).value;
+}
+
+static void call_plot(void) {
+    sink = eas_plot(current->bytes, current->n, spelled, spelled_length).blank;
+}
+
+static void call_line(void) {
+    uint8_t line[LINE_MOST];
+    sink = eas_line(current->bytes, current->n, spelled, spelled_length, line, sizeof line).length;
+}
+
+static void call_spell(void) {
+    uint8_t text[SPELLED_MOST];
+    sink = eas_spell(spelled, spelled_length, text, sizeof text).length;
+}
+
+static void call_read(void) {
+    uint8_t name[NAME_MOST];
+    sink = eas_read(spelled, spelled_length, name).length;
+}
+
+/* Every record of the sheet, and a kind that is unknown. */
+static void call_evaluate(void) {
+    sink = eas_evaluate(0, 0, 0).number;
+    size_t at = HEAD;
+    for (unsigned left = current->accepted ? record_count(current->bytes) : 0; left > 0; left--) {
+        const uint8_t *rest = current->bytes + at + 1 + current->bytes[at];
+        sink = (uint64_t)eas_evaluate(rest[0], get_number(rest + 1, 8), get_number(rest + 9, 8)).value;
+        at = (size_t)(rest - current->bytes) + 17;
+    }
+}
+
+/* The stack of the thread that calls, and what was used of it. */
+typedef struct {
+    uint8_t *stack;
+    void (*work)(void);
+    size_t used;
+} measurement;
+
+/* Marks the stack from a little below this frame on, calls, and looks for the deepest byte that changed. */
+static void *run(void *argument) {
+    measurement *m = argument;
+    uint8_t *frame = __builtin_frame_address(0), *end = frame - OWN, *at = m->stack;
+    memset(at, MARK, (size_t)(end - at));
+    m->work();
+    while (at < end && *at == MARK)
+        at++;
+    m->used = (size_t)(frame - at);
+    return NULL;
+}
+
+/* Bytes of stack that this work uses, at least OWN. */
+static size_t used(void (*work)(void)) {
+    static uint8_t *stack;
+    pthread_attr_t attributes;
+    pthread_t thread;
+    if (!stack)
+        stack = mmap(NULL, STACK, PROT_READ | PROT_WRITE, MAP_PRIVATE | MAP_ANONYMOUS, -1, 0);
+    if (stack == MAP_FAILED)
+        exit(1);
+    measurement m = {stack, work, 0};
+    pthread_attr_init(&attributes);
+    if (pthread_attr_setstack(&attributes, stack, STACK) || pthread_create(&thread, &attributes, run, &m))
+        exit(1);
+    pthread_join(thread, NULL);
+    pthread_attr_destroy(&attributes);
+    return m.used;
+}
+
+/* Adds a record; the states go over all bands and pieces of both kinds. */
+static void add_record(sheet *s, unsigned index) {
+    static const uint64_t firsts[] = {101330000000, 5000000000000, 784084000, 78408400,
+                                      254529,       717361463316,  0,         1000000000000};
+    static const uint64_t densities[] = {129200000000, 12920000000, 81520,       6475339058,
+                                         4085660,      1,           40856600000, 129200000000000};
+    uint8_t *record = s->bytes + s->n;
+    size_t length = index < 256 ? 1 : 2;
+    record[0] = (uint8_t)length;
+    put_number(record + 1, (int)length, index < 256 ? index : index - 256);
+    record[1 + length] = (uint8_t)(index / 64 % 2 + 1);
+    put_number(record + 2 + length, 8, firsts[index % 8]);
+    put_number(record + 10 + length, 8, densities[index / 8 % 8]);
+    s->n += 1 + length + 17;
+    put_number(s->bytes + 5, 2, index + 1);
+}
+
+static void fill(sheet *s, size_t most) {
+    memcpy(s->bytes, "EAS\0\1\0\0", HEAD);
+    s->n = HEAD;
+    for (unsigned index = 0; s->n + (index < 256 ? 19 : 20) <= most; index++)
+        add_record(s, index);
+}
+
+/* An empty sheet, a small one, the fullest, one whose last name is repeated, and one that is too long. */
+static void make_sheets(void) {
+    fill(&sheets[0], HEAD);
+    fill(&sheets[1], 3000);
+    fill(&sheets[2], SHEET_MOST);
+    fill(&sheets[3], SHEET_MOST);
+    memcpy(sheets[3].bytes + sheets[3].n - 20, sheets[3].bytes + sheets[3].n - 40, 3);
+    fill(&sheets[4], SHEET_MOST + 20);
+    for (int i = 0; i < SHEETS; i++)
+        sheets[i].accepted = eas_check(sheets[i].bytes, sheets[i].n) == 0;
+}
+
+static size_t deepest(void (*work)(void)) {
+    size_t most = 0;
+    for (int i = 0; i < SHEETS; i++)
+        for (int j = 0; j < NAMES; j++) {
+            current = &sheets[i];
+            spelled = (const uint8_t *)names[j];
+            spelled_length = strlen(names[j]);
+            size_t bytes = used(work);
+            most = bytes > most ? bytes : most;
+        }
+    return most;
+}
+
+int main(void) {
+    static const struct {
+        const char *name;
+        void (*work)(void);
+    } entries[] = {
+        {"eas_check", call_check},       {"eas_find", call_find}, {"eas_search", call_search}, {"eas_plot", call_plot},
+        {"eas_evaluate", call_evaluate}, {"eas_line", call_line}, {"eas_spell", call_spell},   {"eas_read", call_read},
+    };
+    int failures = 0;
+    make_sheets();
+    for (size_t i = 0; i < sizeof entries / sizeof *entries; i++) {
+        size_t bytes = deepest(entries[i].work);
+        printf("%-12s %6zu bytes of stack\n", entries[i].name, bytes);
+        failures += bytes >= MOST;
+    }
+    printf("stack: %zu checks, %d failures\n", sizeof entries / sizeof *entries, failures);
+    return failures != 0;
+}

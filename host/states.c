@@ -1,0 +1,215 @@
+#include "states.h"
+
+#include <math.h>
+#include <stdio.h>
+#include <stdlib.h>
+
+#include "reference/answer.h"
+
+#define LENGTH(array) (sizeof(array) / sizeof((array)[0]))
+
+/* Density edges, strip edges, extremes, standards. */
+static const int64_t y_edges[] = { -7000000, -6000000, -5000000, -4525000, -4500000, -4475000, -2000000, -1000000,
+                                   -505000,  -500000,  -495000,  0,        1000000,  2000000,  3000000 };
+/* Window, perfect gas, piece ends; and limits and extremes of the entropy's Z. */
+static const int64_t temperature_edges[] = { -1000000, 0,       250000,  650000,  950000, 1400000,
+                                             1450000,  1950000, 2000000, 2500000, 3000000 };
+static const int64_t entropy_edges[] = { -1000000, 0,       400000,  650000,  1000000, 2000000,
+                                         3000000,  3400000, 3500000, 3690000, 4000000 };
+static const uint64_t odd_values[] = { 0,         1,         2,         E_MIN - 1, E_MIN,     E_MIN + 1,
+                                       E0,        P0,        E_MAX - 1, E_MAX,     E_MAX + 1, P_MAX - 1,
+                                       P_MAX,     P_MAX + 1, D_MIN,     D_MAX,     INT64_MAX, INT64_MAX + UINT64_C(1),
+                                       UINT64_MAX };
+static const uint64_t odd_densities[] = { 0,     1,         D_MIN - 1, D_MIN,     D_MIN + 1, D0,
+                                          D_MAX, D_MAX - 1, D_MAX + 1, INT64_MAX, UINT64_MAX };
+static const uint8_t odd_kinds[] = { 0, 1, 2, 3, 4, 49, 128, 255 };
+
+/* standard·10^(millionths/1,000,000), to the nearest whole number, 1 at least. */
+static uint64_t scaled(uint64_t standard, int64_t millionths)
+{
+    long double value = roundl((long double)standard * powl(10.0L, (long double)millionths / 1000000.0L));
+    return value < 1.0L ? 1 : value > 1.8e19L ? UINT64_MAX : (uint64_t)value;
+}
+
+air_state state_near(uint8_t kind, int64_t y, int64_t z)
+{
+    air_state s = { .kind = kind, .second = scaled(D0, y) };
+    s.first = kind == 1 ? scaled(P0, y + z) : scaled(E0, z);
+    return s;
+}
+
+static air_state *list;
+static size_t used, room;
+
+static void add(air_state s)
+{
+    if (used == room) {
+        room = room == 0 ? 4096 : 2 * room;
+        list = realloc(list, room * sizeof list[0]);
+        if (list == NULL) {
+            perror("states");
+            exit(2);
+        }
+    }
+    list[used++] = s;
+}
+
+/* A point and its neighbours: two millionths to each side, and one whole number to each side of the values. */
+static void add_around(uint8_t kind, int64_t y, int64_t z)
+{
+    for (int64_t dy = -1; dy <= 1; dy++)
+        for (int64_t dz = -2; dz <= 2; dz++)
+            add(state_near(kind, y + dy, z + dz));
+    for (int i = -1; i <= 1; i++) {
+        for (int j = -1; j <= 1; j++) {
+            air_state s = state_near(kind, y, z);
+            s.first += (uint64_t)(int64_t)i;
+            s.second += (uint64_t)(int64_t)j;
+            add(s);
+        }
+    }
+}
+
+static void add_plane_edges(void)
+{
+    for (size_t i = 0; i < LENGTH(y_edges); i++) {
+        for (size_t j = 0; j < LENGTH(temperature_edges); j++)
+            add_around(1, y_edges[i], temperature_edges[j]);
+        for (size_t j = 0; j < LENGTH(entropy_edges); j++)
+            add_around(2, y_edges[i], entropy_edges[j]);
+    }
+}
+
+/* Where an exponent passes zero, for densities over the whole range. */
+static void add_transitions(void)
+{
+    for (int64_t y = -7000000; y <= 3000000; y += 125000) {
+        for (int64_t start = 950001; start <= 3000000; start += 50000) {
+            const temperature_piece *piece = piece_at(y, start);
+            long double c1 = piece->exponent[0], c2 = piece->exponent[1], c3 = piece->exponent[2],
+                        c4 = piece->exponent[3];
+            long double ry = (long double)y / 1000000.0L;
+            long double z = -(c1 + c2 * ry) / (c3 + c4 * ry) * 1000000.0L;
+            if (piece->weighed && fabsl(z - (long double)start) < 25000.0L)
+                add_around(1, y, (int64_t)z);
+        }
+    }
+}
+
+/* G by the nearest weight. */
+static int64_t fit_near(int64_t y, int64_t z)
+{
+    const temperature_piece *piece = piece_at(y, z);
+    long double q = (long double)exponent(piece->exponent, y, z) / 1.0e10L;
+    return (int64_t)fitted(piece, y, z, llrintl(1.0e10L / (1.0L + expl(q))));
+}
+
+/* Where G passes its upper limit (it comes nowhere near the lower one), then points where G is the upper limit itself
+ * or one unit more. */
+static void add_fit_limits(void)
+{
+    static const int64_t points[][2] = { { -2919599, 2589131 }, { -2856625, 2588004 }, { -1869428, 2563264 },
+                                         { -1185631, 2536620 }, { -2903467, 2588847 }, { -1713843, 2557991 },
+                                         { -577462, 2503565 },  { 1139227, 2454118 } };
+    const int64_t limit = 19600000000, stride = 20000;
+    for (int64_t y = -7000000; y <= 3000000; y += 250000) {
+        for (int64_t z = 2000000; z < HIGHEST_Z; z += stride) {
+            int64_t low = z, high = z + stride;
+            bool starts_within = fit_near(y, low) <= limit;
+            if ((fit_near(y, high) <= limit) == starts_within)
+                continue;
+            while (high - low > 1) {
+                int64_t middle = (low + high) / 2;
+                if ((fit_near(y, middle) <= limit) == starts_within)
+                    low = middle;
+                else
+                    high = middle;
+            }
+            add_around(1, y, low);
+        }
+    }
+    for (size_t i = 0; i < LENGTH(points); i++)
+        add_around(1, points[i][0], points[i][1]);
+}
+
+/* Every kind with standard values; every pair of values at and beyond the ranges' ends, for known and unknown kinds. */
+static void add_odd_values(void)
+{
+    for (unsigned kind = 0; kind < 256; kind++)
+        add((air_state){ (uint8_t)kind, P0, D0 });
+    for (size_t k = 0; k < LENGTH(odd_kinds); k++)
+        for (size_t i = 0; i < LENGTH(odd_values); i++)
+            for (size_t j = 0; j < LENGTH(odd_densities); j++)
+                add((air_state){ odd_kinds[k], odd_values[i], odd_densities[j] });
+}
+
+const air_state *edge_states(size_t *count)
+{
+    if (used == 0) {
+        add_plane_edges();
+        add_transitions();
+        add_fit_limits();
+        add_odd_values();
+    }
+    *count = used;
+    return list;
+}
+
+air_state plane_state(random_source *r, uint8_t kind)
+{
+    int64_t y = random_between(r, -6999990, 2999990);
+    return state_near(kind, y, kind == 1 ? random_between(r, -999000, 2999000) : random_between(r, -999000, 4105000));
+}
+
+/* Within twenty millionths of an edge in one direction or in both. */
+static air_state state_near_edge(random_source *r, uint8_t kind)
+{
+    int64_t y = y_edges[random_below(r, LENGTH(y_edges))];
+    int64_t z = kind == 1 ? temperature_edges[random_below(r, LENGTH(temperature_edges))]
+                          : entropy_edges[random_below(r, LENGTH(entropy_edges))];
+    uint64_t which = random_below(r, 3);
+    if (which == 0)
+        y = random_between(r, -6999990, 2999990);
+    if (which == 1)
+        z = random_between(r, -999000, 3500000);
+    return state_near(kind, y + random_between(r, -20, 20), z + random_between(r, -20, 20));
+}
+
+/* Inside a strip, or next to its ends. */
+static air_state state_in_strip(random_source *r, uint8_t kind)
+{
+    int64_t y = random_below(r, 2) ? random_between(r, -4525003, -4474997) : random_between(r, -505003, -494997);
+    return state_near(kind, y, random_between(r, -999000, 3700000));
+}
+
+/* Log-uniform over a range that is a little wider than the allowed one. */
+static uint64_t any_size(random_source *r, uint64_t low, uint64_t high)
+{
+    double from = log((double)low) - 0.05, to = log((double)high) + 0.05;
+    return (uint64_t)exp(from + (to - from) * (double)(random_bits(r) >> 11) / 9007199254740992.0);
+}
+
+air_state random_state(random_source *r)
+{
+    uint8_t kind = (uint8_t)(1 + random_below(r, 2));
+    switch (random_below(r, 16)) {
+    case 0:
+        return (air_state){ (uint8_t)random_bits(r), random_bits(r) >> random_below(r, 64),
+                            random_bits(r) >> random_below(r, 64) };
+    case 1:
+        return (air_state){ kind, kind == 1 ? any_size(r, P_MIN, P_MAX) : any_size(r, E_MIN, E_MAX),
+                            any_size(r, D_MIN, D_MAX) };
+    case 2:
+    case 3:
+    case 4:
+        return state_near_edge(r, kind);
+    case 5:
+    case 6:
+        return state_in_strip(r, kind);
+    case 7:
+    case 8:
+        return plane_state(r, 2);
+    default:
+        return plane_state(r, 1);
+    }
+}

@@ -1,0 +1,27 @@
+/* States to try: all edges of document 01 with their neighbours, and random ones. */
+#ifndef HOST_STATES_H
+#define HOST_STATES_H
+
+#include <stddef.h>
+#include <stdint.h>
+
+#include "random.h"
+
+typedef struct {
+    uint8_t kind;
+    uint64_t first, second;
+} air_state;
+
+/* The state whose logarithms are next to these millionths, whether in range or not. */
+air_state state_near(uint8_t kind, int64_t y, int64_t z);
+
+/* Every edge with its neighbours; the list lives as long as the program. */
+const air_state *edge_states(size_t *count);
+
+/* A state of any sort: over the plane, near an edge, over the ranges, out of range, of an unknown kind. */
+air_state random_state(random_source *r);
+
+/* A state over the plane, of kind 1 or 2, nearly always accepted. */
+air_state plane_state(random_source *r, uint8_t kind);
+
+#endif

@@ -1,0 +1,35 @@
+/* The listing of source document 000 in C doubles with libm: TGAS1's temperature (labels 300 to 450) and TGAS2's
+ * entropy. Benchmarks are measured against it; the checklist and the fuzz drivers compare with it. */
+#ifndef TGAS_H
+#define TGAS_H
+
+#include <stdint.h>
+
+/* Density bands, by y = log10 of the density ratio; an edge belongs to the lower band. */
+enum { LOW, MIDDLE, HIGH };
+int tgas_band(double y);
+
+/* A fitted piece at (y, z): GAS1 to GAS4, GAS5 to GAS8 and the exponent of GAS9; without weight, b and exponent are 0.
+ */
+typedef struct {
+    double a, b, exponent;
+    int weighted;
+} tgas_parts;
+
+/* Temperature's piece of a band for z above 0.25. */
+tgas_parts tgas1_parts(int band, double y, double z);
+
+/* log10 of T/T0. */
+double tgas1_fit(tgas_parts parts);
+
+/* Entropy in J/(kg K) of a band, not joined. */
+double tgas2_plain(int band, double y, double z);
+
+/* Entropy joined at the band edges. */
+double tgas2_joined(double y, double z);
+
+/* Kelvin from micropascal and 10^-11 kg/m3; J/(kg K) from mJ/kg and 10^-11 kg/m3. */
+double tgas1_temperature(uint64_t pressure, uint64_t density);
+double tgas2_entropy(uint64_t energy, uint64_t density);
+
+#endif
