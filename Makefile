@@ -2,6 +2,7 @@
 #
 #   make                             target/staticlib/libairstate.a and target/host/libairstate.so
 #   make install PREFIX=/usr/local   header, both libraries, pkg-config file; DESTDIR is put in front
+#   make run                         proves and builds the listing program and runs it on the sample sheet
 #   make test                        everything under host/; LISTING=path tests the listing program too
 
 PREFIX ?= /usr/local
@@ -16,7 +17,7 @@ STATIC ?= target/staticlib/libairstate.a
 BUILD ?= target/host
 SHARED = $(BUILD)/libairstate.so.$(VERSION)
 
-.PHONY: all install uninstall test clean
+.PHONY: all run install uninstall test clean
 
 all: $(STATIC) $(SHARED) $(BUILD)/airstate.pc
 
@@ -34,6 +35,12 @@ $(BUILD)/airstate.pc: host/airstate.pc.in
 	@mkdir -p $(@D)
 	sed -e 's|@PREFIX@|$(PREFIX)|' -e 's|@INCLUDEDIR@|$(INCLUDEDIR)|' -e 's|@LIBDIR@|$(LIBDIR)|' \
 		-e 's|@VERSION@|$(VERSION)|' $< > $@
+
+# The program is built only where every crate below it is proved.
+run:
+	rt check listing > target.log 2>&1 || { tail -n 20 target.log; exit 1; }
+	@rm -f target.log; mkdir -p target/run; cp host/samples/sample.eas target/run/sheet.eas
+	@cd target/run && ../bin/listing < ../../crates/listing/stdin
 
 # The pkg-config file is written again, since PREFIX may differ from the build's.
 install: all
