@@ -1,12 +1,12 @@
 -- Every value that a state's answer shows, and its Y, can be drawn exactly.
-use mathlib.Core.Bool.{Bool, true, false, true≢false, _||_, cond}
+use mathlib.Core.Bool.{Bool, true, false, cond}
 use mathlib.Core.List.{List}
-use mathlib.Core.Path.{_≡_, refl, sym, ap, _∙_, subst}
+use mathlib.Core.Path.{_≡_, refl, sym, subst}
 use Prim.Native.Nat.{ℕ, suc, _+_, _-_, _*_, _/_, _^_, _≤_, _<_}
 use native.Mathlib.Nat.{le-trans, le-of-lt, mul-le-mul-left}
 use native.Mathlib.Omega.{arith}
 use lib.Dec.{T, le→leb, lit≤}
-use lib.IntN.{ℤ, pos, negsuc, natAbs, _+ℤ_, _-ℤ_, _*ℤ_}
+use lib.IntN.{ℤ, pos, negsuc, natAbs, _-ℤ_, _*ℤ_}
 use lib.Signed.{_≤ℤ_, _<ℤ_, ltZ, shrZ}
 use lib.Ieee.{binary64, inFloat}
 use Rattle.integer.specs.Z.{up, dn, zs, v, ≤→, <→, →≤, ≡-by}
@@ -16,7 +16,6 @@ use Rattle.power.proofs.Kelvin.{power-small}
 use Rattle.fit.specs.Range.{Between}
 use Rattle.fit.specs.Fit.{straight}
 use Rattle.fit.proofs.Floors.{quotient-upto}
-use Rattle.tgas.specs.declared.Band.{Band}
 use Rattle.tgas.specs.declared.Region.{Region}
 use Rattle.tgas.specs.declared.Region.the-variants.{Refused, Perfect, Fitted}
 use Rattle.tgas.specs.declared.Strip.{Strip}
@@ -26,7 +25,6 @@ use Rattle.tgas.specs.Bands.{stripOf}
 use Rattle.tgas.specs.Region.{regionOf}
 use Rattle.tgas.specs.Temperature.{temperaturePiece}
 use Rattle.tgas.proofs.Regions.{perfect-region}
-use Rattle.perfect.specs.Perfect.{perfectGas}
 use Rattle.perfect.proofs.Quotient.{perfect-small}
 use Rattle.kind.specs.declared.Kind.{Kind}
 use Rattle.kind.specs.declared.Kind.the-variants.{Temperature, Entropy, Unknown}
@@ -36,8 +34,8 @@ use Rattle.air.specs.declared.Edges.the-variants.{Unfitted}
 use Rattle.air.specs.declared.Ends.the-variants.{Unjoined}
 use Rattle.air.specs.Quantities.{isPressure, isDensity, isEnergy}
 use Rattle.air.specs.Held.{Held, judges, shows}
-use Rattle.air.specs.Temperature.{letterT, beyondFit, oneEdge, fromFit, TemperatureLogs}
-use Rattle.air.specs.Entropy.{letterS, entropyAt, aboveLimit, entropyIn, EntropyLogs}
+use Rattle.air.specs.Temperature.{letterT, beyondFit, oneEdge, fromFit}
+use Rattle.air.specs.Entropy.{letterS, entropyAt, aboveLimit, entropyIn}
 use Rattle.air.specs.Join.{joined, anyPlace}
 use Rattle.air.specs.Choices.{chosen}
 use Rattle.air.specs.State.{propertyOf, heldBy, answerBy, ranged, edgeBy, kelvinBy, fittedBy, temperatureAt, temperatureBy, temperatureLogs, entropyLogs}
@@ -46,8 +44,8 @@ use Rattle.air.proofs.Claims.{y-range}
 use Rattle.air.proofs.Allowed.{lawful, temperature-logs, entropy-logs}
 use Rattle.air.proofs.Sizes.{entropy-most}
 use Rattle.temperature.specs.Ready.{TemperatureReady}
-use Rattle.temperature.proofs.Laws.{Passes, passes, kelvin-range, dividable}
-use Rattle.entropy.specs.Ready.{PlaceReady, JoinReady}
+use Rattle.temperature.proofs.Laws.{or-left, or-right, passes, kelvin-range, dividable}
+use Rattle.entropy.specs.Ready.{PlaceReady}
 use Rattle.entropy.proofs.Laws.{strip-ready, place-ready}
 use Rattle.mark.specs.Mark.{Drawable, DrawableFrom}
 use Rattle.sheet.specs.declared.Lookup.{Lookup}
@@ -66,14 +64,6 @@ draws : {y z : ℤ} → YRange y → natAbs z ≤ 2 ^ 53 → Drawable y z
 draws {y} {z} r h = record { least = r .least; most = r .most; value = in-float z h }
 
 -- ---- temperature
-or-left : (a b : Bool) → (a || b) ≡ false → a ≡ false
-or-left true b e = e
-or-left false b e = refl
-
-or-right : (a b : Bool) → (a || b) ≡ false → b ≡ false
-or-right true b e = absurd (true≢false e)
-or-right false b e = e
-
 fit-shown : (l : Logs) (g w : ℤ) → YRange (l .y) → Shown (fromFit l g w (kelvinBy chosen g))
 unfolding fromFit
 fit-shown l g w r = go (beyondFit g) refl

@@ -34,6 +34,15 @@ use Rattle.air.specs.State.{edgeBy, kelvinBy}
 use Rattle.air.proofs.Tests.{and-left, and-right, not-left, not-right, is-false, abs-of}
 use Rattle.temperature.specs.Ready.{TemperatureReady}
 
+-- ---- a test of two parts that is false
+pub or-left : (a b : Bool) → (a || b) ≡ false → a ≡ false
+or-left true b e = e
+or-left false b e = refl
+
+pub or-right : (a b : Bool) → (a || b) ≡ false → b ≡ false
+or-right true b e = absurd (true≢false e)
+or-right false b e = e
+
 -- ---- a fit that 13 lets through
 pub record Passes (g : ℤ) : Type 0 where
   pub plain : T (nonNeg g)
@@ -86,16 +95,8 @@ module _ (b : Band) (i : ℕ) (y z : ℤ) where
 pub window-most : (z : ℤ) → beyondWindow z ≡ false → natAbs z ≤ 3000000
 window-most z e =
     abs-of 999999 3000000 z
-    (test-not-lt (by-left (ltZ z (negsuc 999999)) (ltZ (pos 3000000) z) e)) (test-not-lt (by-right (ltZ z (negsuc 999999)) (ltZ (pos 3000000) z) e))
+    (test-not-lt (or-left (ltZ z (negsuc 999999)) (ltZ (pos 3000000) z) e)) (test-not-lt (or-right (ltZ z (negsuc 999999)) (ltZ (pos 3000000) z) e))
     3000000 (omega arith) (omega arith)
-  where
-    by-left : (a b : Bool) → (a || b) ≡ false → a ≡ false
-    by-left true b e = e
-    by-left false b e = refl
-
-    by-right : (a b : Bool) → (a || b) ≡ false → b ≡ false
-    by-right true b e = absurd (true≢false e)
-    by-right false b e = e
 
 pub dividable : (p d : ℕ) (l : Logs) → TemperatureReady p d l → IsPerfect (l .z) → Dividable p d
 dividable p d l h r =

@@ -1,21 +1,17 @@
 -- `airstate::assemble` puts an answer's parts together.
 use mathlib.Core.Bool.{Bool, true, false, cond}
-use mathlib.Core.Path.{_≡_, subst, sym}
+use mathlib.Core.Path.{subst, sym}
 use Prim.Native.Nat.{ℕ, _+_, _≤_}
 use native.Mathlib.Omega.{arith}
 use borrow.Author.Needs.{needs}
 use lib.Dec.{lit≤}
-use lib.IntN.{ℤ}
-use mir.Syntax.{w32, w64}
-use mir.Val.{Fits, SFits, toZ, ofZ}
+use mir.Syntax.{w32}
+use mir.Val.{Fits}
 use Rattle.fit.proofs.Machine.{back}
 use Rattle.airstate.proofs.assemble.Statement.{statement}
 use Rattle.airstate.proofs.assemble.Tie as tie
 use Rattle.airstate.proofs.assemble.Reads as reads
 use Rattle.airstate.proofs.assemble.Lts as lts
-
-again : (z : ℤ) → SFits w64 z → toZ w64 (ofZ w64 z) ≡ z
-again z h = back h
 
 few : (b : Bool) → cond b 3 1 ≤ 3
 few true = lit≤ tt
@@ -42,7 +38,7 @@ add-bits-2 c = two (c .before .log-bits .result) (c .before .before .args .edges
 returns : tie.Need-returns
 returns c =
     let s = c .before .before .before .before .before in
-    rw (again (s .args .logs .x) (search needs), again (s .args .logs .y) (search needs), again (s .args .logs .z) (search needs), back (s .fits .value), c .before .before .before .before .log-bits .ensures)
+    rw (back {z = s .args .logs .x} (search needs), back {z = s .args .logs .y} (search needs), back {z = s .args .logs .z} (search needs), back (s .fits .value), c .before .before .before .before .log-bits .ensures)
 
 pub assemble-spec : {M : Type 1} → statement M
 assemble-spec = tie.close (tie.spec log-bits-requires add-bits add-bits-2 returns)

@@ -1,8 +1,5 @@
 -- `airstate::flat_edges` flattens the fits of an answer.
-use mathlib.Core.Path.{_≡_, sym, ap, _∙_}
-use lib.IntN.{ℤ}
-use mir.Syntax.{w64}
-use mir.Val.{SFits, toZ, ofZ}
+use mathlib.Core.Path.{sym, ap}
 use Rattle.fit.proofs.Machine.{back}
 use Rattle.air.specs.declared.Edges.{Edges}
 use Rattle.airstate.specs.Flat.{flatEdges}
@@ -11,9 +8,6 @@ use Rattle.airstate.proofs.flat_edges.Statement.{statement}
 use Rattle.airstate.proofs.flat_edges.Tie as tie
 use Rattle.airstate.proofs.flat_edges.Reads as reads
 use Rattle.airstate.proofs.flat_edges.Lts as lts
-
-again : (z : ℤ) → SFits w64 z → toZ w64 (ofZ w64 z) ≡ z
-again z h = back h
 
 enum-told : tie.Need-enum-told
 enum-told c = search needs
@@ -36,7 +30,7 @@ returns-2 c =
     let k = c .before .before in
     let s = k .before .before in
     let g = k .edges .given .0 in
-    rw (again (g .0 .fit) (search needs), again (g .0 .weight) (search needs), back (s .fits .low))
+    rw (back {z = g .0 .fit} (search needs), back {z = g .0 .weight} (search needs), back (s .fits .low))
     (sym (ap (λ (e : Edges). flatEdges e (s .args .low) (s .args .high)) (k .edges .given .1)))
 
 returns-3 : tie.Need-returns-3
@@ -45,7 +39,7 @@ returns-3 c =
     let k = c .before .before .before in
     let s = k .before .before in
     let g = k .edges2 .given .0 in
-    rw (again (g .0 .fit) (search needs), again (g .0 .weight) (search needs), back (s .fits .low), again (g .1 .0 .fit) (search needs), again (g .1 .0 .weight) (search needs), back (s .fits .high))
+    rw (back {z = g .0 .fit} (search needs), back {z = g .0 .weight} (search needs), back (s .fits .low), back {z = g .1 .0 .fit} (search needs), back {z = g .1 .0 .weight} (search needs), back (s .fits .high))
     (sym (ap (λ (e : Edges). flatEdges e (s .args .low) (s .args .high)) (k .edges2 .given .1)))
 
 pub flat-edges-spec : {M : Type 1} → statement M

@@ -1,12 +1,10 @@
 -- `airstate::flatten` flattens each case of an answer.
-use mathlib.Core.Bool.{Bool, cond}
 use mathlib.Core.Path.{_≡_, refl, sym, ap, _∙_, subst}
-use Prim.Native.Nat.{ℕ, _+_, _≤_}
-use native.Mathlib.Nat.{add-zero}
+use Prim.Native.Nat.{ℕ, _≤_}
 use lib.Dec.{lit≤}
 use lib.IntN.{ℤ, pos}
 use mir.Syntax.{w64}
-use mir.Val.{SFits, toZ, ofZ}
+use mir.Val.{SFits}
 use Rattle.fit.proofs.Machine.{back, back-ok}
 use Rattle.air.specs.declared.Logs.{Logs}
 use Rattle.air.specs.declared.Edges.{Edges}
@@ -14,8 +12,7 @@ use Rattle.air.specs.declared.Edges.the-variants.{Unfitted, One, Two}
 use Rattle.air.specs.declared.Answer.{Answer}
 use Rattle.air.specs.Held.{held, judges}
 use Rattle.airstate.specs.declared.CEdges.{CEdges}
-use Rattle.airstate.specs.declared.CAnswer.{CAnswer}
-use Rattle.airstate.specs.Flat.{flatEdges, edgeBits, assembled, flat, lowValue, highValue}
+use Rattle.airstate.specs.Flat.{flatEdges, edgeBits, assembled, flat}
 use borrow.Author.Needs.{needs}
 use Rattle.airstate.proofs.flatten.Statement.{statement}
 use Rattle.airstate.proofs.flatten.Tie as tie
@@ -25,9 +22,6 @@ use Rattle.airstate.proofs.assemble.Reads as assemble-reads
 use Rattle.airstate.proofs.flat_edges.Reads as flat-edges-reads
 use Rattle.airstate.proofs.high_value.Reads as high-value-reads
 use Rattle.airstate.proofs.low_value.Reads as low-value-reads
-
-again : (z : ℤ) → SFits w64 z → toZ w64 (ofZ w64 z) ≡ z
-again z h = back h
 
 edge-bits-few : (e : Edges) → edgeBits e ≤ 12
 edge-bits-few Unfitted = lit≤ tt
@@ -96,7 +90,7 @@ returns-3 c =
     let e =
     rw (back-ok (lo .low-value .result) (lo .low-value .ok), back-ok (h .high-value .result) (h .high-value .ok), lo .low-value .ensures, h .high-value .ensures) at
     (c .before .flat-edges2 .ensures) in
-    (rw (again (g .1 .1 .1 .1 .0) (value-fits (lo .before))) at (c .assemble2 .ensures))
+    (rw (back {z = g .1 .1 .1 .1 .0} (value-fits (lo .before))) at (c .assemble2 .ensures))
     ∙ ap (λ (x : CEdges). assembled 0 (g .0) (g .1 .0) x 16 (g .1 .1 .1 .1 .0)) e
     ∙ sym (ap (λ (x : Answer). flat (held x)) (k .a3 .given .1))
 

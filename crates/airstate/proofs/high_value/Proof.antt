@@ -1,8 +1,5 @@
 -- `airstate::high_value` is that edge's value, or 0.
-use mathlib.Core.Path.{_≡_, sym, ap, _∙_}
-use lib.IntN.{ℤ}
-use mir.Syntax.{w64}
-use mir.Val.{SFits, toZ, ofZ}
+use mathlib.Core.Path.{sym, ap}
 use Rattle.fit.proofs.Machine.{back}
 use Rattle.airstate.specs.Flat.{highValue}
 use borrow.Author.Needs.{needs}
@@ -10,9 +7,6 @@ use Rattle.airstate.proofs.high_value.Statement.{statement}
 use Rattle.airstate.proofs.high_value.Tie as tie
 use Rattle.airstate.proofs.high_value.Reads as reads
 use Rattle.airstate.proofs.high_value.Lts as lts
-
-again : (z : ℤ) → SFits w64 z → toZ w64 (ofZ w64 z) ≡ z
-again z h = back h
 
 enum-told : tie.Need-enum-told
 enum-told c = search needs
@@ -26,7 +20,7 @@ returns c = sym (ap highValue (c .enum-told .given .1))
 returns-2 : tie.Need-returns-2
 returns-2 c =
     let g = c .before .ends .given .0 in
-    rw (again (g .1 .0) (search needs)) (sym (ap highValue (c .before .ends .given .1)))
+    rw (back {z = g .1 .0} (search needs)) (sym (ap highValue (c .before .ends .given .1)))
 
 pub high-value-spec : {M : Type 1} → statement M
 high-value-spec = tie.close (tie.spec enum-told enum-known-ends returns returns-2)

@@ -1,25 +1,18 @@
 -- `entropy::entropy_from` follows the strip of Y.
 use mathlib.Core.Path.{_≡_, sym, ap, _∙_}
 use borrow.Author.Needs.{needs}
-use lib.IntN.{ℤ}
-use mir.Syntax.{w64}
-use mir.Val.{SFits, toZ, ofZ}
 use Rattle.fit.proofs.Machine.{back}
 use Rattle.tgas.specs.declared.Strip.{Strip}
 use Rattle.tgas.specs.Bands.{stripOf}
 use Rattle.air.specs.Entropy.{entropyIn}
-use Rattle.entropy.specs.Ready.{JoinReady}
 use Rattle.entropy.proofs.Laws.{strip-ready}
 use Rattle.entropy.proofs.entropy_from.Statement.{statement}
 use Rattle.entropy.proofs.entropy_from.Tie as tie
 use Rattle.entropy.proofs.entropy_from.Reads as reads
 use Rattle.entropy.proofs.entropy_from.Lts as lts
 
-again : (z : ℤ) → SFits w64 z → toZ w64 (ofZ w64 z) ≡ z
-again z h = back h
-
 strip : (c : tie.After-strip-of) → c .strip-of .result ≡ stripOf (c .before .before .args .logs .y)
-strip c = rw (again (c .before .before .args .logs .y) (search needs)) at (c .strip-of .ensures)
+strip c = rw (back {z = c .before .before .args .logs .y} (search needs)) at (c .strip-of .ensures)
 
 strip-of-requires : tie.Need-strip-of-requires
 strip-of-requires c κs = search needs
@@ -38,7 +31,7 @@ joined-requires c κs =
     let a = c .before .before .before in
     let s = a .before .before in
     let g = c .before .a .given .0 in
-    rw (again (g .0) (search needs), again (g .1 .0) (search needs))
+    rw (back {z = g .0} (search needs), back {z = g .1 .0} (search needs))
     (strip-ready (s .args .logs .y) (s .args .logs .z) (s .pre .z-most) (sym (strip a) ∙ c .before .a .given .1))
 
 returns : tie.Need-returns
@@ -52,7 +45,7 @@ returns-2 c =
     let a = c .before .before .before .before in
     let l = a .before .before .args .logs in
     let g = c .before .before .a .given .0 in
-    (rw (again (g .0) (search needs), again (g .1 .0) (search needs)) at (c .joined .ensures))
+    (rw (back {z = g .0} (search needs), back {z = g .1 .0} (search needs)) at (c .joined .ensures))
     ∙ sym (ap (λ (s : Strip). entropyIn s l) (sym (strip a) ∙ c .before .before .a .given .1))
 
 pub entropy-from-spec : {M : Type 1} → statement M

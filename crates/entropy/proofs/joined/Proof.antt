@@ -1,10 +1,6 @@
 -- `entropy::joined` is the answer inside a strip: both edges within their limits, and the straight line.
-use mathlib.Core.Path.{_≡_, sym, ap, _∙_}
-use native.Mathlib.Omega.{arith}
+use mathlib.Core.Path.{_≡_, sym, _∙_}
 use borrow.Author.Needs.{needs}
-use lib.IntN.{ℤ}
-use mir.Syntax.{w64}
-use mir.Val.{SFits, toZ, ofZ}
 use Rattle.fit.specs.Fit.{straight}
 use Rattle.fit.proofs.Machine.{back, back-ok, in-back, in-ok}
 use Rattle.air.specs.Entropy.{entropyAt, aboveLimit}
@@ -15,18 +11,15 @@ use Rattle.entropy.proofs.joined.Tie as tie
 use Rattle.entropy.proofs.joined.Reads as reads
 use Rattle.entropy.proofs.joined.Lts as lts
 
-again : (z : ℤ) → SFits w64 z → toZ w64 (ofZ w64 z) ≡ z
-again z h = back h
-
 test-low : (c : tie.After-above-limit) → let s = c .before .before .before in c .above-limit .result ≡ aboveLimit (s .args .a) (s .args .logs .z)
 test-low c =
     let s = c .before .before .before in
-    rw (back (s .fits .a), again (s .args .logs .z) (search needs)) at (c .above-limit .ensures)
+    rw (back (s .fits .a), back {z = s .args .logs .z} (search needs)) at (c .above-limit .ensures)
 
 test-high : (c : tie.After-above-limit2) → let s = c .before .before .before .before .before in c .above-limit2 .result ≡ aboveLimit (s .args .b) (s .args .logs .z)
 test-high c =
     let s = c .before .before .before .before .before in
-    rw (back (s .fits .b), again (s .args .logs .z) (search needs)) at (c .above-limit2 .ensures)
+    rw (back (s .fits .b), back {z = s .args .logs .z} (search needs)) at (c .above-limit2 .ensures)
 
 above-limit-requires : tie.Need-above-limit-requires
 above-limit-requires c κs = search needs
@@ -58,22 +51,22 @@ returns-2 c =
 entropy-at-requires : tie.Need-entropy-at-requires
 entropy-at-requires c κs =
     let s = c .before .before .before .before .before .before in
-    rw (back (s .fits .a), again (s .args .logs .z) (search needs)) (s .pre .low)
+    rw (back (s .fits .a), back {z = s .args .logs .z} (search needs)) (s .pre .low)
 
 entropy-at-requires-2 : tie.Need-entropy-at-requires-2
 entropy-at-requires-2 c κs =
     let s = c .before .before .before .before .before .before .before in
-    rw (back (s .fits .b), again (s .args .logs .z) (search needs)) (s .pre .high)
+    rw (back (s .fits .b), back {z = s .args .logs .z} (search needs)) (s .pre .high)
 
 low : (c : tie.After-entropy-at) → let s = c .before .before .before .before .before .before .before in c .entropy-at .result ≡ entropyAt (s .args .a) (s .args .logs .z)
 low c =
     let s = c .before .before .before .before .before .before .before in
-    rw (back (s .fits .a), again (s .args .logs .z) (search needs)) at (c .entropy-at .ensures)
+    rw (back (s .fits .a), back {z = s .args .logs .z} (search needs)) at (c .entropy-at .ensures)
 
 high : (c : tie.After-entropy-at2) → let s = c .before .before .before .before .before .before .before .before in c .entropy-at2 .result ≡ entropyAt (s .args .b) (s .args .logs .z)
 high c =
     let s = c .before .before .before .before .before .before .before .before in
-    rw (back (s .fits .b), again (s .args .logs .z) (search needs)) at (c .entropy-at2 .ensures)
+    rw (back (s .fits .b), back {z = s .args .logs .z} (search needs)) at (c .entropy-at2 .ensures)
 
 straight-requires : tie.Need-straight-requires
 straight-requires c κs =
@@ -81,7 +74,7 @@ straight-requires c κs =
     let a = s .args .a in
     let b = s .args .b in
     let z = s .args .logs .z in (
-      rw (back (s .fits .a), back (s .fits .b), again (s .args .logs .y) (search needs)) (s .pre .between),
+      rw (back (s .fits .a), back (s .fits .b), back {z = s .args .logs .y} (search needs)) (s .pre .between),
       (
         in-back (s .fits .a) (in-25 a (s .pre .low .y-most)),
         (
@@ -100,7 +93,7 @@ value c =
     let e = c .before in
     let d = e .before in
     let s = d .before .before .before .before .before .before .before in
-    (rw (back (s .fits .a), back (s .fits .b), again (s .args .logs .y) (search needs), back-ok (d .entropy-at .result) (d .entropy-at .ok), back-ok (e .entropy-at2 .result) (e .entropy-at2 .ok)) at (c .straight .ensures))
+    (rw (back (s .fits .a), back (s .fits .b), back {z = s .args .logs .y} (search needs), back-ok (d .entropy-at .result) (d .entropy-at .ok), back-ok (e .entropy-at2 .result) (e .entropy-at2 .ok)) at (c .straight .ensures))
     ∙ rw (low d, high e)
 
 shown-requires : tie.Need-shown-requires

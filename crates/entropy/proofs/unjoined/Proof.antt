@@ -1,9 +1,6 @@
 -- `entropy::unjoined` is the answer outside the strips.
-use mathlib.Core.Path.{_≡_, sym, ap, _∙_}
+use mathlib.Core.Path.{_≡_, sym, _∙_}
 use borrow.Author.Needs.{needs}
-use lib.IntN.{ℤ}
-use mir.Syntax.{w64}
-use mir.Val.{SFits, toZ, ofZ}
 use Rattle.fit.proofs.Machine.{back, back-ok}
 use Rattle.air.specs.Entropy.{entropyAt, aboveLimit}
 use Rattle.entropy.proofs.Laws.{beyond-clear, shown-clear}
@@ -12,13 +9,10 @@ use Rattle.entropy.proofs.unjoined.Tie as tie
 use Rattle.entropy.proofs.unjoined.Reads as reads
 use Rattle.entropy.proofs.unjoined.Lts as lts
 
-again : (z : ℤ) → SFits w64 z → toZ w64 (ofZ w64 z) ≡ z
-again z h = back h
-
 test : (c : tie.After-above-limit) → let l = c .before .before .before .args .logs in c .above-limit .result ≡ aboveLimit (l .y) (l .z)
 test c =
     let l = c .before .before .before .args .logs in
-    rw (again (l .y) (search needs), again (l .z) (search needs)) at (c .above-limit .ensures)
+    rw (back {z = l .y} (search needs), back {z = l .z} (search needs)) at (c .above-limit .ensures)
 
 above-limit-requires : tie.Need-above-limit-requires
 above-limit-requires c κs = search needs
@@ -37,7 +31,7 @@ entropy-at-requires c κs = search needs
 value : (c : tie.After-entropy-at) → let l = c .before .before .before .before .before .args .logs in c .entropy-at .result ≡ entropyAt (l .y) (l .z)
 value c =
     let l = c .before .before .before .before .before .args .logs in
-    rw (again (l .y) (search needs), again (l .z) (search needs)) at (c .entropy-at .ensures)
+    rw (back {z = l .y} (search needs), back {z = l .z} (search needs)) at (c .entropy-at .ensures)
 
 shown-requires : tie.Need-shown-requires
 shown-requires c κs = search needs

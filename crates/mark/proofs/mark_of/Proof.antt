@@ -1,10 +1,7 @@
 -- `mark::mark_of` is the mark of what the answer holds.
 use mathlib.Core.Path.{_≡_, sym, ap, _∙_, subst}
 use borrow.Author.Needs.{needs}
-use mir.Syntax.{w64}
-use mir.Facts.{toZ-ofZ}
-use mir.Val.{SFits, toZ, ofZ}
-use lib.IntN.{ℤ}
+use Rattle.fit.proofs.Machine.{back}
 use Rattle.air.specs.declared.Answer.{Answer}
 use Rattle.air.specs.Held.{held}
 use Rattle.mark.specs.declared.Mark.the-variants.{At}
@@ -14,9 +11,6 @@ use Rattle.mark.proofs.mark_of.Tie as tie
 use Rattle.mark.proofs.mark_of.Reads as reads
 use Rattle.mark.proofs.mark_of.Lts as lts
 use Rattle.mark.proofs.point_of.Reads as point-of-reads
-
-back : (z : ℤ) → SFits w64 z → toZ w64 (ofZ w64 z) ≡ z
-back z h = toZ-ofZ h
 
 enum-known-a : tie.Need-enum-known-a
 enum-known-a c = search needs
@@ -31,7 +25,7 @@ point-of-requires : tie.Need-point-of-requires
 point-of-requires c κs =
     let a = c .before .before in
     let g = a .a3 .given .0 in
-    rw (back (g .1 .0 .y) (search needs), back (g .1 .1 .1 .1 .0) (search needs))
+    rw (back {z = g .1 .0 .y} (search needs), back {z = g .1 .1 .1 .1 .0} (search needs))
     (subst (λ (x : Answer). DrawableFrom (held x .logs) (held x .value)) (a .a3 .given .1) (a .before .before .pre))
 
 returns : tie.Need-returns
@@ -47,7 +41,7 @@ unfolding markOf
 returns-3 c =
     let a = c .before .before .before in
     let g = a .a3 .given .0 in
-    ap At (rw (back (g .1 .0 .y) (search needs), back (g .1 .1 .1 .1 .0) (search needs)) at (c .point-of .ensures))
+    ap At (rw (back {z = g .1 .0 .y} (search needs), back {z = g .1 .1 .1 .1 .0} (search needs)) at (c .point-of .ensures))
     ∙ sym (ap (λ (x : Answer). markOf (held x)) (a .a3 .given .1))
 
 pub mark-of-spec : {M : Type 1} → statement M

@@ -1,22 +1,15 @@
 -- `temperature::fitted` is a piece's answer.
-use mathlib.Core.Path.{_≡_, ap, _∙_}
+use mathlib.Core.Path.{ap, _∙_}
 use borrow.Author.Needs.{needs}
-use lib.IntN.{ℤ}
-use mir.Syntax.{w64}
-use mir.Val.{SFits, toZ, ofZ}
 use Rattle.fit.proofs.Machine.{back}
 use Rattle.air.specs.declared.Edge.{Edge}
 use Rattle.air.specs.Choices.{chosen}
 use Rattle.air.specs.Temperature.{fromFit}
-use Rattle.air.specs.State.{edgeBy, kelvinBy, fittedBy}
-use Rattle.tgas.specs.Temperature.{temperaturePiece}
+use Rattle.air.specs.State.{kelvinBy, fittedBy}
 use Rattle.temperature.proofs.fitted.Statement.{statement}
 use Rattle.temperature.proofs.fitted.Tie as tie
 use Rattle.temperature.proofs.fitted.Reads as reads
 use Rattle.temperature.proofs.fitted.Lts as lts
-
-again : (z : ℤ) → SFits w64 z → toZ w64 (ofZ w64 z) ≡ z
-again z h = back h
 
 fit-at-requires : tie.Need-fit-at-requires
 fit-at-requires c κs = search needs
@@ -30,8 +23,8 @@ returns c =
     let a = c .before .before .before in
     let s = a .before .before .before in
     let l = s .args .logs in
-    let e = rw (again (l .y) (search needs), again (l .z) (search needs)) at (a .fit-at .ensures) in
-    (rw (again (a .fit-at .result .fit) (search needs), again (a .fit-at .result .weight) (search needs)) at (c .from-fit .ensures))
+    let e = rw (back {z = l .y} (search needs), back {z = l .z} (search needs)) at (a .fit-at .ensures) in
+    (rw (back {z = a .fit-at .result .fit} (search needs), back {z = a .fit-at .result .weight} (search needs)) at (c .from-fit .ensures))
     ∙ ap (λ (x : Edge). fromFit l (x .fit) (x .weight) (kelvinBy chosen (x .fit))) e
 
 pub fitted-spec : {M : Type 1} → statement M

@@ -3,9 +3,7 @@ use mathlib.Core.Path.{_≡_, sym, ap, _∙_}
 use Prim.Native.Nat.{_^_, _<_}
 use native.Mathlib.Omega.{arith}
 use borrow.Author.Needs.{needs}
-use lib.IntN.{ℤ}
 use mir.Syntax.{w64}
-use mir.Val.{SFits, toZ, ofZ}
 use mir.Facts.{toZ-pos}
 use Rattle.fit.proofs.Machine.{back}
 use Rattle.tgas.specs.declared.Region.{Region}
@@ -22,13 +20,10 @@ use Rattle.temperature.proofs.temperature_from.Tie as tie
 use Rattle.temperature.proofs.temperature_from.Reads as reads
 use Rattle.temperature.proofs.temperature_from.Lts as lts
 
-again : (z : ℤ) → SFits w64 z → toZ w64 (ofZ w64 z) ≡ z
-again z h = back h
-
 region : (c : tie.After-region-of) → let s = c .before .before .before in c .region-of .result ≡ regionOf (s .args .logs .y) (s .args .logs .z)
 region c =
     let s = c .before .before .before in
-    rw (again (s .args .logs .y) (search needs), again (s .args .logs .z) (search needs)) at (c .region-of .ensures)
+    rw (back {z = s .args .logs .y} (search needs), back {z = s .args .logs .z} (search needs)) at (c .region-of .ensures)
 
 region-of-requires : tie.Need-region-of-requires
 region-of-requires c κs = search needs
