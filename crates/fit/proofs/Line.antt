@@ -55,6 +55,6 @@ line {a} {b} {low} {high} {y} h ha hb hl hh =
       fit1 = fits64 d (omega arith);
       fit2 = fits64 (y -ℤ a) (omega arith);
       fit3 = fits64 (b -ℤ a) (omega arith);
-      splits = record { some = apart-some h; size = omega arith; product = omega arith };
+      splits = record { first = record { some = apart-some h; size = omega arith }; rest = omega arith; product = omega arith };
       fit4 = fits64 (straight a b low high y) (omega (arith, abs-+ low (shrZ (d *ℤ (y -ℤ a)) w), hl .size));
     }

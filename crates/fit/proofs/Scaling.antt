@@ -12,10 +12,10 @@ use Rattle.integer.specs.Z.{≤→}
 use Rattle.integer.specs.Laws.{abs-+, abs-*}
 use Rattle.integer.specs.Floor.{Down}
 use Rattle.weight.specs.Weight.{units}
-use Rattle.fit.specs.Range.{In, Splits}
+use Rattle.fit.specs.Range.{In, Divides, Splits}
 use Rattle.fit.proofs.Floors.{is-down, split, twice, quotient-upto, rest-size, product-size}
 use Rattle.fit.proofs.Machine.{fits64}
-use Rattle.fit.proofs.Ranges.{splits}
+use Rattle.fit.proofs.Ranges.{splits, divides-over}
 
 weight-size : (w : ℤ) → pos 0 ≤ℤ w → w ≤ℤ pos units → natAbs w ≤ units
 weight-size (pos w) h k = omega (arith, ≤→ k)
@@ -25,11 +25,20 @@ weight-size (negsuc w) h k = absurd (h .le)
 pub scaled-size : (w b : ℤ) → pos 0 ≤ℤ w → w ≤ℤ pos units → natAbs (shrZ (w *ℤ b) units) ≤ natAbs b
 scaled-size w b h k = quotient-upto (w *ℤ b) (natAbs b) units (lit< tt) (rw abs-* (omega (arith, mul-le-mul-right (natAbs b) (weight-size w h k))))
 
+-- the two quotients of a B that is below 2^38
+module _ (w b : ℤ) (least : pos 0 ≤ℤ w) (most : w ≤ℤ pos units) (small : natAbs b ≤ 274877906943) where
+  pub scaled-splits : Splits b w (pos 1024)
+  scaled-splits = splits 1024 274877906943 units small (weight-size w least most) (lit< tt) (lit< tt) (lit< tt) (lit< tt)
+
+  pub scaled-divides : Divides (shrZ (b *ℤ w) 1024) (pos 9765625)
+  scaled-divides = divides-over 1024 9765625 274877906943 units b w small (weight-size w least most) (lit< tt) (lit< tt) (lit< tt)
+
 pub record Scaling (w b h : ℤ) : Type 0 where
   pub fit1 : SFits w64 (h *ℤ pos units)
   pub fit2 : SFits w64 (b -ℤ h *ℤ pos units)
   pub fit3 : SFits w64 (h *ℤ w)
   pub splits : Splits w (b -ℤ h *ℤ pos units) (pos 100000)
+  pub second : Divides (shrZ (w *ℤ (b -ℤ h *ℤ pos units)) 100000) (pos 100000)
   pub fit4 : SFits w64 (h *ℤ w +ℤ shrZ (shrZ (w *ℤ (b -ℤ h *ℤ pos units)) 100000) 100000)
   pub is : h *ℤ w +ℤ shrZ (shrZ (w *ℤ (b -ℤ h *ℤ pos units)) 100000) 100000 ≡ shrZ (w *ℤ b) units
 
@@ -49,7 +58,8 @@ scaling w b h least most hb e =
       fit1 = fits64 (h *ℤ pos units) (rw abs-* (omega (arith, product-size h b units d, hb .size)));
       fit2 = fits64 l (omega arith);
       fit3 = fits64 (h *ℤ w) (rw abs-* (omega (arith, mul-le-mul hh hw)));
-      splits = splits 100000 units units hw (le-of-lt hl) (lit< tt) (lit< tt) (lit< tt);
+      splits = splits 100000 units units hw (le-of-lt hl) (lit< tt) (lit< tt) (lit< tt) (lit< tt);
+      second = divides-over 100000 100000 units units w l hw (le-of-lt hl) (lit< tt) (lit< tt) (lit< tt);
       fit4 = rw whole (fits64 (shrZ (w *ℤ b) units) (omega (arith, scaled-size w b least most, hb .size)));
       is = whole;
     }

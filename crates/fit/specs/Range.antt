@@ -18,10 +18,15 @@ allIn n (z ∷ l) = ltb (natAbs z) (2 ^ n) && allIn n l
 pub record AllIn (n : ℕ) (l : List ℤ) : Type 0 where
   pub all : T (allIn n l)
 
+-- a / m can be had in 64 bits
+pub record Divides (a m : ℤ) : Type 0 where
+  pub some : pos 0 <ℤ m
+  pub size : natAbs a + natAbs m < 2 ^ 62
+
 -- a * b / m can be had in 64 bits from the quotient and the rest of a by m
 pub record Splits (a b m : ℤ) : Type 0 where
-  pub some : pos 0 <ℤ m
-  pub size : natAbs a + natAbs m < 2 ^ 63
+  pub first : Divides a m
+  pub rest : natAbs m * natAbs b + natAbs m < 2 ^ 62
   pub product : (natAbs a / natAbs m + 1 + natAbs m) * natAbs b + 1 < 2 ^ 63
 
 -- y lies between two edges that are apart

@@ -1,19 +1,20 @@
 // The fit engine in 64 bits: mul, the bicubic, the exponent, G and the straight line of a join.
 // Every quotient is rounded toward minus infinity; a product that would leave 64 bits is split first.
 ghost use mathlib.Core.Path.{_≡_};
-ghost use Prim.Native.Nat.{_*_, _^_};
+ghost use Prim.Native.Nat.{_*_, _^_, _<_};
 ghost use lib.IntN.{pos, natAbs, _+ℤ_, _*ℤ_};
 ghost use lib.Signed.{shrZ, _≤ℤ_, _<ℤ_};
 ghost use Rattle.weight.specs.Weight.{units};
-ghost use Rattle.fit.specs.Range.{In, AllIn, Splits, Between};
+ghost use Rattle.fit.specs.Range.{In, AllIn, Divides, Splits, Between};
 ghost use Rattle.fit.specs.Fit.{mul, bicubic, exponent, straight};
 
-// a / m.
+// a / m: moved up by a multiple of m to above 0, where the machine's quotient rounds down.
 fn floor_div(a: i64, m: i64) -> i64
-    requires { ⌜ pos 0 <ℤ m ⌝ }
+    requires { ⌜ Divides a m ⌝ }
     ensures { λ r. ⌜ r ≡ shrZ a (natAbs m) ⌝ }
 {
-    if a < 0 { -1 - (-1 - a) / m } else { a / m }
+    let k = 4611686018427387904 / m + 1;
+    ((a + k * m) as u64 / m as u64) as i64 - k
 }
 
 // a * b / m.
@@ -26,12 +27,25 @@ fn mul_div(a: i64, b: i64, m: i64) -> i64
     h * b + floor_div(l * b, m)
 }
 
-// a * b / 1,000,000.
+// a * b / m for an m that is 2^k, by shifts.
+fn mul_shift(a: i64, b: i64, k: u32, m: i64) -> i64
+    requires { ⌜ (k < 63) × (m ≡ pos (2 ^ k)) × Splits a b m ⌝ }
+    ensures { λ r. ⌜ r ≡ shrZ (a *ℤ b) (natAbs m) ⌝ }
+{
+    let h = a >> k;
+    let l = a - h * m;
+    h * b + ((l * b) >> k)
+}
+
+// a * b / 1,000,000. A factor a below 2^43, as nearly all are, takes one quotient: by 64 with shifts, then by 15,625.
 pub fn mul(a: i64, b: i64) -> i64
     requires { ⌜ (In 57 a) × (In 25 b) ⌝ }
     ensures { λ r. ⌜ r ≡ mul a b ⌝ }
 {
-    mul_div(a, b, 1000000)
+    if a < -8796093022207 || 8796093022207 < a {
+        return mul_div(a, b, 1000000);
+    }
+    floor_div(mul_shift(a, b, 6, 64), 15625)
 }
 
 // a + bY.
@@ -77,14 +91,25 @@ pub fn exponent(c: [i64; 4], y: i64, z: i64) -> i64
     linear(c[0], c[1], y) + mul(c[2], z) + mul(mul(c[3], y), z)
 }
 
-// W * B / 10^10: B is split by 10^10 and what is left of it is divided twice by 10^5.
-pub fn scaled(w: i64, b: i64) -> i64
+// W * B / 10^10 of any B: it is split by 10^10 and what is left of it is divided twice by 10^5.
+fn scaled_wide(w: i64, b: i64) -> i64
     requires { ⌜ (pos 0 ≤ℤ w) × ((w ≤ℤ pos units) × (In 57 b)) ⌝ }
     ensures { λ r. ⌜ r ≡ shrZ (w *ℤ b) units ⌝ }
 {
     let h = floor_div(b, 10000000000);
     let l = b - h * 10000000000;
     h * w + floor_div(mul_div(w, l, 100000), 100000)
+}
+
+// W * B / 10^10. A B below 2^38, as nearly all are, takes one quotient: by 1,024 with shifts, then by 9,765,625.
+pub fn scaled(w: i64, b: i64) -> i64
+    requires { ⌜ (pos 0 ≤ℤ w) × ((w ≤ℤ pos units) × (In 57 b)) ⌝ }
+    ensures { λ r. ⌜ r ≡ shrZ (w *ℤ b) units ⌝ }
+{
+    if b < -274877906943 || 274877906943 < b {
+        return scaled_wide(w, b);
+    }
+    floor_div(mul_shift(b, w, 10, 1024), 9765625)
 }
 
 // G where there is a second bicubic, of the two bicubics' values and the weight.

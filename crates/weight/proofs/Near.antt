@@ -1,5 +1,6 @@
--- The law of the program's choice: `weightOf` is a weight, within 1 unit of the ideal one for every number of terms from 128 up.
+-- The law of the program's choice: `weightOf` is a weight, within 2 units of the ideal one for every number of terms from 128 up.
 -- Budget, in units of 1 / scale: 13 from the short sum, and 4 from the tables that count as 5 beside the whole sum; 18 · 10^10 is at most scale.
+-- That is 1 unit of the weight; the rounding of the sum c + v to hundreds is less than another.
 use mathlib.Core.Bool.{Bool, true, false}
 use mathlib.Core.Path.{_≡_, refl, ap, subst}
 use Prim.Native.Nat.{ℕ, zero, suc, _+_, _-_, _*_, _/_, _%_, _≤_, _<_}
@@ -20,6 +21,7 @@ use Rattle.weight.proofs.Tail.{sum-mono}
 use Rattle.weight.proofs.Exponential.{exponential-up, exponential-low, exponential-ge}
 use Rattle.weight.proofs.Addition.{add-up, add-low}
 use Rattle.weight.proofs.Inverse.{Inverse, product-le, inverse-is}
+use Rattle.weight.proofs.Sizes.{inverse-le}
 
 -- ---- from c and v to the sum at a + r: v / c beside z / d
 -- the sums at a and at r, over dm and dk, at a + r over d
@@ -37,26 +39,39 @@ ratio-low s c v d x y z pd hc hv up most dz =
     (omega (arith, mul-le-mul-left c up, mul-le-mul-right y hc, mul-le-mul-right d hv, mul-le-mul-right d dz))
     pd
 
--- ---- from v / c to the weight w = b · c / (c + v)
-module _ (b c v p d w : ℕ) (some : 0 < c) where
-  share-low : v * d ≤ c * p → b * c ≤ (w + 1) * (c + v) → b * d ≤ (w + 1) * (d + p)
-  share-low up h = le-of-mul-le-mul-left {k = c} (omega (arith, mul-le-mul-right d h, mul-le-mul-left (w + 1) up)) some
+-- ---- from v / c to the weight w, which is near b · c / (c + v): p / d is the sum at q
+module _ (b c v w : ℕ) (some : 0 < c) (hv : 18 * b ≤ v) (hc : c ≤ v + 1) (hb : 100 ≤ b) (above : w * (c + v) ≤ b * c + 49 * w) where
+  share-small : 17 * w ≤ c
+  share-small = le-of-mul-le-mul-left {k = b} (omega (arith, mul-le-mul-left w hv, mul-le-mul-right w hb)) (omega arith)
 
-  share-high : c * p ≤ v * d + 18 * p → w * (c + v) ≤ b * c → 18 * w ≤ c → w * (d + p) ≤ b * d + 1 * (d + p)
-  share-high low h small =
-      le-of-mul-le-mul-left {k = c} (omega (arith, mul-le-mul-right d h, mul-le-mul-left w low, mul-le-mul-right p small)) some
+  -- the weight is at most one half, but for the rounding
+  share-half : 2 * w ≤ b + 3
+  share-half = le-of-mul-le-mul-left {k = c} (omega (arith, mul-le-mul-left w hc, share-small)) some
 
-  share-small : 0 < b → 18 * b ≤ v → w * (c + v) ≤ b * c → 18 * w ≤ c
-  share-small pb hv h = le-of-mul-le-mul-left {k = b} (omega (arith, mul-le-mul-left w hv)) pb
+  share-most : w ≤ b
+  share-most = omega (arith, share-half)
 
-  share-most : w * (c + v) ≤ b * c → w ≤ b
-  share-most h = le-of-mul-le-mul-right {k = c} (omega arith) some
+  share-narrow : 50 * (w + 1) ≤ c + v
+  share-narrow = omega (arith, share-small, share-half)
 
--- w is within 1 of the ideal weight at u, in naturals
+  module _ (p d : ℕ) (up : v * d ≤ c * p) where
+    share-low : b * c ≤ (w + 1) * (c + v + 50) → b * d ≤ (w + 2) * (d + p)
+    share-low h =
+        le-of-mul-le-mul-left {k = c}
+        (omega (arith, mul-le-mul-right d h, mul-le-mul-left (w + 1) up, mul-le-mul-right d share-narrow))
+        some
+
+    share-high : d ≤ p → c * p ≤ v * d + 18 * p → w * (d + p) ≤ b * d + 2 * (d + p)
+    share-high dp low =
+        le-of-mul-le-mul-left {k = c}
+        (omega (arith, mul-le-mul-right d above, mul-le-mul-left w low, mul-le-mul-right p share-small, mul-le-mul-right d share-small, mul-le-mul-left c dp))
+        some
+
+-- w is within 2 of the ideal weight at u, in naturals
 record Near (u w : ℕ) : Type 0 where
   most : w ≤ units
-  low : (n : ℕ) → 128 ≤ n → units * den units n ≤ (w + 1) * (den units n + num units u n)
-  high : (n : ℕ) → 128 ≤ n → w * (den units n + num units u n) ≤ units * den units n + 1 * (den units n + num units u n)
+  low : (n : ℕ) → 128 ≤ n → units * den units n ≤ (w + 2) * (den units n + num units u n)
+  high : (n : ℕ) → 128 ≤ n → w * (den units n + num units u n) ≤ units * den units n + 2 * (den units n + num units u n)
 
 -- ---- below 24
 module _ (a r c : ℕ) (small : r < 625000000) (below : a + r < 240000000000) (is : Inverse 4 122 a c) where
@@ -88,25 +103,43 @@ module _ (a r c : ℕ) (small : r < 625000000) (below : a + r < 240000000000) (i
       by zero h = let f : ⊥ = omega (arith, den-pos units 122 (lit< tt)) in absurd f
       by (suc c) h = omega arith
 
-  near-below : (w : ℕ) → w ≡ share c v → Near (a + r) w
+  near-below : (w : ℕ) → c ≤ scale + 1 → w ≡ share c v → Near (a + r) w
   unfolding share
-  near-below w e =
+  near-below w most e =
       record {
-        most = share-most units c v 0 0 w some quotient-high;
-        low = λ n h. share-low units c v (num units (a + r) n) (den units n) w some (up n h) quotient-low;
+        most = share-most units c v w some enough apart (lit≤ tt) quotient-high;
+        low = λ n h. share-low units c v w some enough apart (lit≤ tt) quotient-high (num units (a + r) n) (den units n) (up n h) quotient-low;
         high = λ n h.
-            share-high units c v (num units (a + r) n) (den units n) w some (low n h) quotient-high
-            (share-small units c v 0 0 w some (lit< tt) enough quotient-high);
+            share-high units c v w some enough apart (lit≤ tt) quotient-high (num units (a + r) n) (den units n) (up n h)
+            (den-le-num units (a + r) n) (low n h);
       }
     where
-      quotient-high : w * (c + v) ≤ units * c
-      quotient-high = rw e (div-mul-le-self (units * c) (c + v))
-
-      quotient-low : units * c ≤ (w + 1) * (c + v)
-      quotient-low = rw e (omega (arith, lt-div-mul-add {a = units * c} {b = c + v} (omega (arith, some))))
-
       enough : 18 * units ≤ v
       enough = omega (arith, exponential-ge r small)
+
+      apart : c ≤ v + 1
+      apart = omega (arith, exponential-ge r small)
+
+      -- the rounded sum
+      h : ℕ
+      h = (c + v + 50) / 100
+
+      rounded-low : h * 100 ≤ c + v + 50
+      rounded-low = div-mul-le-self (c + v + 50) 100
+
+      rounded-high : c + v + 50 < h * 100 + 100
+      rounded-high = lt-div-mul-add {a = c + v + 50} {b = 100} (lit< tt)
+
+      quotient-high : w * (c + v) ≤ units * c + 49 * w
+      quotient-high =
+          let k : c + v ≤ h * 100 + 49 = omega (arith, rounded-high) in
+          let q : w * h ≤ c * 100000000 = rw e (div-mul-le-self (c * 100000000) h) in
+          omega (arith, mul-le-mul-left w k)
+
+      quotient-low : units * c ≤ (w + 1) * (c + v + 50)
+      quotient-low =
+          let q : c * 100000000 < w * h + h = rw e (lt-div-mul-add {a = c * 100000000} {b = h} (omega (arith, rounded-high, enough))) in
+          omega (arith, mul-le-mul-left (w + 1) rounded-low)
 
 -- ---- from 24 on: the sum is above 10^10
 at-24 : units * den units 128 ≤ num units 240000000000 128
@@ -139,7 +172,8 @@ near-above u = by (ltb u 240000000000) refl
         let h = ltb-true u 240000000000 e in
         subst (λ (x : ℕ). Near x (share (inverse (u / 625000000)) (exponential (u % 625000000)))) whole-is
         (near-below (u / 625000000 * 625000000) (u % 625000000) (inverse (u / 625000000)) (mod-lt u (lit< tt)) (omega (arith, whole-is))
-        (inverse-is (u / 625000000) (omega arith)) (share (inverse (u / 625000000)) (exponential (u % 625000000))) refl)
+        (inverse-is (u / 625000000) (omega arith)) (share (inverse (u / 625000000)) (exponential (u % 625000000)))
+        (inverse-le (u / 625000000) (omega arith)) refl)
     by false e = near-zero u (ltb-false u 240000000000 e)
 
 -- ---- in whole numbers, for both signs
@@ -147,14 +181,14 @@ within : (k w t d : ℕ) → 0 < d → w * d ≤ units * t + k * d → units * t
 within k w t d p h l =
     record { proper = record { some = omega arith }; low = ≤-by (search zs) (omega arith); high = ≤-by (search zs) (omega arith) }
 
-pub weight-near : (q : ℤ) → IsWeight 1 q (weightOf q)
+pub weight-near : (q : ℤ) → IsWeight 2 q (weightOf q)
 unfolding weightOf ideal
 weight-near (pos u) =
     let h = near-above u in
     record {
       least = ≤-by (search zs) (omega arith);
       most = ≤-by (search zs) (omega (arith, h .most));
-      near = λ n k. within 1 (weightAbove u) (den units n) (den units n + num units u n) (omega (arith, den-pos units n (lit< tt))) (h .high n k) (h .low n k);
+      near = λ n k. within 2 (weightAbove u) (den units n) (den units n + num units u n) (omega (arith, den-pos units n (lit< tt))) (h .high n k) (h .low n k);
     }
 weight-near (negsuc m) =
     let h = near-above (suc m) in
@@ -164,7 +198,7 @@ weight-near (negsuc m) =
       most = ≤-by (search zs) (omega arith);
       near = λ n k.
           let c = den units n + num units (suc m) n in
-          within 1 (units - weightAbove (suc m)) (num units (suc m) n) c (omega (arith, den-pos units n (lit< tt)))
+          within 2 (units - weightAbove (suc m)) (num units (suc m) n) c (omega (arith, den-pos units n (lit< tt)))
           (omega (arith, h .low n k, ap (λ x. x * c) e))
           (omega (arith, h .high n k, ap (λ x. x * c) e));
     }

@@ -55,9 +55,9 @@ sixth r = fourth r * square r / 300000000000
 unfoldable pub exponential : ℕ → ℕ
 exponential r = scale + 18 * r + second r + third r + fourth r + fifth r + sixth r
 
--- c parts of c + v, in units
+-- c parts of c + v, in units; the sum is rounded to hundreds, so that 64 bits hold all
 unfoldable pub share : ℕ → ℕ → ℕ
-share c v = units * c / (c + v)
+share c v = c * 100000000 / ((c + v + 50) / 100)
 
 -- a where the test holds, else 0
 abbrev pub orZero : Bool → ℕ → ℕ

@@ -1,6 +1,6 @@
 // Free answer two of document 01: the weight of a transition, 10^10 / (1 + e^q) for q in units of 10^-10.
 // Method: q = i/16 + r with r below 1/16; c = scale / e^(i/16) from two tables, v = scale * e^r from seven terms of the series,
-// and the weight is c / (c + v). scale is 1.8 * 10^11. Proved: within 1 unit for every number of terms from 128 up.
+// and the weight is c / (c + v). scale is 1.8 * 10^11. Proved: within 2 units for every number of terms from 128 up.
 ghost use mathlib.Core.Path.{_≡_};
 ghost use Prim.Native.Nat.{_+_, _*_, _<_, _≤_};
 ghost use lib.ListN.{getD};
@@ -89,14 +89,12 @@ fn exponential_of(r: u64) -> u64
     180000000000 + first + second + third + fourth + fifth + sixth
 }
 
-// 10^10 * c / (c + v), by long division in two steps.
+// 10^10 * c / (c + v), with the sum rounded to hundreds so that one quotient gives it.
 fn share_of(c: u64, v: u64) -> u64
     requires { ⌜ (c ≤ scale + 1) × (scale ≤ v) × (v ≤ 2 * scale) ⌝ }
     ensures { λ w. ⌜ w ≡ share c v ⌝ }
 {
-    let d = c + v;
-    let a = c * 100000000;
-    a / d * 100 + a % d * 100 / d
+    c * 100000000 / ((c + v + 50) / 100)
 }
 
 // The weight at u units.

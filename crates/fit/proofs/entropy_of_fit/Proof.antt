@@ -13,7 +13,7 @@ use Rattle.fit.proofs.entropy_of_fit.Tie as tie
 mul-div-requires : tie.Need-mul-div-requires
 mul-div-requires c κs =
     rw (back (c .fits .n))
-    (splits 100000000 (2 ^ 57) 28706 (le-of-lt (c .pre .size)) (lit≤ tt) (lit< tt) (lit< tt) (lit< tt))
+    (splits 100000000 (2 ^ 57) 28706 (le-of-lt (c .pre .size)) (lit≤ tt) (lit< tt) (lit< tt) (lit< tt) (lit< tt))
 
 returns : tie.Need-returns
 returns c =

@@ -18,7 +18,7 @@ regrouped m = let vm = v m in ≡-by (search zs) (omega arith)
 mul-div-requires : tie.Need-mul-div-requires
 mul-div-requires c κs =
     rw (back (c .fits .m))
-    (splits 20000000000 66098005010 (2 ^ 27) (lit≤ tt) (le-of-lt (c .pre .size)) (lit< tt) (lit< tt) (lit< tt))
+    (splits 20000000000 66098005010 (2 ^ 27) (lit≤ tt) (le-of-lt (c .pre .size)) (lit< tt) (lit< tt) (lit< tt) (lit< tt))
 
 returns : tie.Need-returns
 returns c =

@@ -1,45 +1,51 @@
--- `fit::floor_div` rounds down on both sides of 0.
-use mathlib.Core.Path.{_≡_, _∙_, ap, sym}
-use lib.IntN.{ℤ, pos}
-use lib.Signed.{ltZ}
-use Rattle.fit.proofs.Machine.{back, above-zero, Below, below, Above, above}
+-- `fit::floor_div` rounds down on both sides of 0: what it divides is above 0.
+use native.Mathlib.Omega.{arith}
+use Rattle.fit.proofs.Machine.{back, above-zero, Lifts, lifts}
 use Rattle.fit.proofs.floor_div.Statement.{statement}
 use Rattle.fit.proofs.floor_div.Tie as tie
 
--- the test, of the argument itself
-sign : (s : tie.Start) → ltZ (s .args .a) (pos 0) ≡ ltZ (mir.Val.toZ mir.Syntax.w64 (mir.Val.ofZ mir.Syntax.w64 (s .args .a))) (pos 0)
-sign s = ap (λ (z : ℤ). ltZ z (pos 0)) (sym (back (s .fits .a)))
+st : (s : tie.Start) → Lifts (s .args .a) (s .args .m)
+st s = lifts (s .args .a) (s .args .m) (s .pre)
 
-neg : (c : tie.Then1) → Below (c .before .args .a) (c .before .args .m)
-neg c = let s = c .before in below (s .args .a) (s .args .m) (s .fits .a) (s .pre) (sign s ∙ c .if1 .taken)
+div-k : tie.Need-div-k
+div-k c = (above-zero (c .args .m) (c .pre .some), rw (back (c .fits .m)) (st c .fit1))
 
-non : (c : tie.Else1) → Above (c .before .args .a) (c .before .args .m)
-non c = let s = c .before in above (s .args .a) (s .args .m) (s .fits .a) (s .pre) (sign s ∙ c .if1 .left)
+add-k : tie.Need-add-k
+add-k c = rw (back (c .fits .m), back (st c .fit1)) (st c .fit2)
 
-sub-result : tie.Need-sub-result
-sub-result c = rw (back (c .before .fits .a)) (neg c .fit1)
+mul-result : tie.Need-mul-result
+mul-result c = rw (back (c .fits .m), back (st c .fit1), back (st c .fit2)) (st c .fit3)
+
+add-result : tie.Need-add-result
+add-result c = rw (back (c .fits .a), back (c .fits .m), back (st c .fit1), back (st c .fit2), back (st c .fit3)) (st c .fit4)
+
+cast-result : tie.Need-cast-result
+cast-result c =
+    rw (back (c .fits .a), back (c .fits .m), back (st c .fit1), back (st c .fit2), back (st c .fit3), back (st c .fit4))
+    (st c .above, record { fits = omega (arith, st c .room) })
+
+cast-result-2 : tie.Need-cast-result-2
+cast-result-2 c = rw (back (c .fits .m)) (st c .divisor, record { fits = omega (arith, st c .small) })
 
 div-result : tie.Need-div-result
-div-result c =
-    let s = c .before in
-    (above-zero (s .args .m) (s .pre), rw (back (s .fits .a), back (neg c .fit1), back (s .fits .m)) (neg c .fit2))
+div-result c = rw (back (c .fits .m)) (st c .some)
 
-sub-result-2 : tie.Need-sub-result-2
-sub-result-2 c =
-    let s = c .before in rw (back (s .fits .a), back (neg c .fit1), back (s .fits .m), back (neg c .fit2)) (neg c .fit3)
+cast-result-3 : tie.Need-cast-result-3
+cast-result-3 c =
+    rw (back (c .fits .a), back (c .fits .m), back (st c .fit1), back (st c .fit2), back (st c .fit3), back (st c .fit4))
+    (st c .fit5)
 
-div-result-2 : tie.Need-div-result-2
-div-result-2 c =
-    let s = c .before in (above-zero (s .args .m) (s .pre), rw (back (s .fits .a), back (s .fits .m)) (non c .fit))
+sub-result : tie.Need-sub-result
+sub-result c =
+    rw (back (c .fits .a), back (c .fits .m), back (st c .fit1), back (st c .fit2), back (st c .fit3), back (st c .fit4), back (st c .fit5))
+    (st c .fit6)
 
 returns : tie.Need-returns
 returns c =
-    let s = c .before in
-    rw (back (s .fits .a), back (neg c .fit1), back (s .fits .m), back (neg c .fit2), back (neg c .fit3)) (neg c .is)
-
-returns-2 : tie.Need-returns-2
-returns-2 c = let s = c .before in rw (back (s .fits .a), back (s .fits .m), back (non c .fit)) (non c .is)
+    rw (back (c .fits .a), back (c .fits .m), back (st c .fit1), back (st c .fit2), back (st c .fit3), back (st c .fit4), back (st c .fit5), back (st c .fit6))
+    (st c .is)
 
 pub floor-div-spec : {M : Type 1} → statement M
 floor-div-spec =
-    tie.close (tie.spec sub-result div-result sub-result-2 div-result-2 returns returns-2)
+    tie.close
+    (tie.spec div-k add-k mul-result add-result cast-result cast-result-2 div-result cast-result-3 sub-result returns)

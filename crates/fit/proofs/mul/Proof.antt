@@ -1,19 +1,56 @@
--- `fit::mul` is `mul_div` at a million.
-use mathlib.Core.Path.{_∙_}
+-- `fit::mul` is the quotient by a million: at once, or by 64 and then by 15,625.
+use mathlib.Core.Path.{_≡_, refl, _∙_}
+use Prim.Native.Nat.{_≤_}
+use lib.Dec.{lit<}
+use lib.IntN.{natAbs, _*ℤ_}
+use lib.Signed.{shrZ}
+use mir.Syntax.{w64}
+use mir.Val.{toZ, ofZ}
 use Rattle.fit.specs.Fit.{mul}
-use Rattle.fit.proofs.Machine.{back, back-ok}
-use Rattle.fit.proofs.Ranges.{mul-splits}
+use Rattle.fit.proofs.Floors.{twice}
+use Rattle.fit.proofs.Machine.{back, back-ok, tested}
+use Rattle.fit.proofs.Ranges.{mul-splits, short-splits, short-divides}
 use Rattle.fit.proofs.mul.Statement.{statement}
 use Rattle.fit.proofs.mul.Tie as tie
 
+-- the first factor, where both tests fail
+short : (c : tie.Else2) → natAbs (c .before .before .args .a) ≤ 8796093022207
+short c =
+    let s = c .before .before in
+    tested (s .args .a) 8796093022206 (rw (back (s .fits .a)) at (c .before .if1 .left)) (rw (back (s .fits .a)) at (c .if2 .left))
+
 mul-div-requires : tie.Need-mul-div-requires
-mul-div-requires c κs = rw (back (c .fits .a), back (c .fits .b)) (mul-splits (c .pre .0) (c .pre .1))
+mul-div-requires c κs =
+    let s = c .before in
+    rw (back (s .fits .a), back (s .fits .b)) (mul-splits (s .pre .0) (s .pre .1))
 
 returns : tie.Need-returns
 unfolding mul
 returns c =
-    let s = c .before in
+    let s = c .before .before in
     back-ok (c .mul-div .result) (c .mul-div .ok) ∙ (rw (back (s .fits .a), back (s .fits .b)) at (c .mul-div .ensures))
 
+mul-shift-requires : tie.Need-mul-shift-requires
+mul-shift-requires c κs =
+    let s = c .before .before in
+    (lit< tt, refl, rw (back (s .fits .a), back (s .fits .b)) (short-splits (short c) (s .pre .1)))
+
+-- the quotient by 64
+over : (c : tie.After-mul-shift) → let s = c .before .before .before in toZ w64 (ofZ w64 (c .mul-shift .result)) ≡ shrZ (s .args .a *ℤ s .args .b) 64
+over c =
+    let s = c .before .before .before in
+    back-ok (c .mul-shift .result) (c .mul-shift .ok) ∙ (rw (back (s .fits .a), back (s .fits .b)) at (c .mul-shift .ensures))
+
+floor-div-requires : tie.Need-floor-div-requires
+floor-div-requires c κs = let s = c .before .before .before in rw (over c) (short-divides (s .args .a) (s .args .b) (short (c .before)) (s .pre .1))
+
+returns-2 : tie.Need-returns-2
+unfolding mul
+returns-2 c =
+    let s = c .before .before .before .before in
+    back-ok (c .floor-div .result) (c .floor-div .ok)
+    ∙ (rw (over (c .before)) at (c .floor-div .ensures))
+    ∙ twice (s .args .a *ℤ s .args .b) 64 15625
+
 pub mul-spec : {M : Type 1} → statement M
-mul-spec = tie.close (tie.spec mul-div-requires returns)
+mul-spec = tie.close (tie.spec mul-div-requires returns mul-shift-requires floor-div-requires returns-2)

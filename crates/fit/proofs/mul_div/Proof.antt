@@ -18,7 +18,7 @@ st c =
     (rw (back (s .fits .a), back (s .fits .m)) at (c .floor-div .ensures))
 
 floor-div-requires : tie.Need-floor-div-requires
-floor-div-requires c κs = rw (back (c .fits .m)) (c .pre .some)
+floor-div-requires c κs = rw (back (c .fits .a), back (c .fits .m)) (c .pre .first)
 
 mul-l : tie.Need-mul-l
 mul-l c = rw (rh c, back (c .before .fits .m)) (st c .fit1)
@@ -35,7 +35,9 @@ mul-floor-div c =
     rw (back (s .fits .a), back (s .fits .b), rh c, back (s .fits .m), back (st c .fit1), back (st c .fit2)) (st c .fit4)
 
 floor-div-requires-2 : tie.Need-floor-div-requires-2
-floor-div-requires-2 c κs = rw (back (c .before .fits .m)) (c .before .pre .some)
+floor-div-requires-2 c κs =
+    let s = c .before in
+    rw (back (s .fits .a), back (s .fits .b), rh c, back (s .fits .m), back (st c .fit1), back (st c .fit2), back (st c .fit4)) (st c .second)
 
 -- the second quotient, as the machine reads it
 rest : (c : tie.After-floor-div2) → toZ w64 (ofZ w64 (c .floor-div2 .result))

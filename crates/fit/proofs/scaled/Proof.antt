@@ -1,74 +1,55 @@
--- `fit::scaled` is the quotient of the whole product.
-use mathlib.Core.Path.{_≡_, _∙_}
-use lib.IntN.{ℤ, pos, _-ℤ_, _*ℤ_}
+-- `fit::scaled` is the quotient by 10^10: at once, or by 1,024 and then by 9,765,625.
+use mathlib.Core.Path.{_≡_, refl, ap, _∙_}
+use Prim.Native.Nat.{_≤_}
+use lib.Dec.{lit<}
+use lib.IntN.{ℤ, natAbs, _*ℤ_, *ℤ-comm}
 use lib.Signed.{shrZ}
 use mir.Syntax.{w64}
 use mir.Val.{toZ, ofZ}
 use Rattle.weight.specs.Weight.{units}
-use Rattle.fit.proofs.Machine.{back, back-ok}
-use Rattle.fit.proofs.Scaling.{Scaling, scaling}
+use Rattle.fit.proofs.Floors.{twice}
+use Rattle.fit.proofs.Machine.{back, back-ok, tested}
+use Rattle.fit.proofs.Scaling.{scaled-splits, scaled-divides}
 use Rattle.fit.proofs.scaled.Statement.{statement}
 use Rattle.fit.proofs.scaled.Tie as tie
 
-rh : (c : tie.After-floor-div) → toZ w64 (ofZ w64 (c .floor-div .result)) ≡ c .floor-div .result
-rh c = back-ok (c .floor-div .result) (c .floor-div .ok)
-
-st : (c : tie.After-floor-div) → Scaling (c .before .args .w) (c .before .args .b) (c .floor-div .result)
-st c =
-    let s = c .before in
-    scaling (s .args .w) (s .args .b) (c .floor-div .result) (s .pre .0) (s .pre .1 .0) (s .pre .1 .1)
-    (rw (back (s .fits .b)) at (c .floor-div .ensures))
-
-floor-div-requires : tie.Need-floor-div-requires
-floor-div-requires c κs = record { lt = tt }
-
-mul-l : tie.Need-mul-l
-mul-l c = rw (rh c) (st c .fit1)
-
-sub-l : tie.Need-sub-l
-sub-l c = rw (back (c .before .fits .b), rh c, back (st c .fit1)) (st c .fit2)
-
-mul-result : tie.Need-mul-result
-mul-result c = rw (rh c, back (c .before .fits .w)) (st c .fit3)
-
-mul-div-requires : tie.Need-mul-div-requires
-mul-div-requires c κs =
-    let s = c .before in
-    rw (back (s .fits .b), back (s .fits .w), rh c, back (st c .fit1), back (st c .fit2)) (st c .splits)
-
--- the two quotients of the rest
-inner : (c : tie.After-mul-div) → let d = c .before in toZ w64 (ofZ w64 (c .mul-div .result)) ≡ shrZ (d .before .args .w *ℤ (d .before .args .b -ℤ d .floor-div .result *ℤ pos units)) 100000
-inner c =
+-- B, where both tests fail
+short : (c : tie.Else2) → natAbs (c .before .before .args .b) ≤ 274877906943
+short c =
     let s = c .before .before in
-    let f = st (c .before) in
-    back-ok (c .mul-div .result) (c .mul-div .ok)
-    ∙ (rw (back (s .fits .b), back (s .fits .w), rh (c .before), back (f .fit1), back (f .fit2)) at (c .mul-div .ensures))
+    tested (s .args .b) 274877906942 (rw (back (s .fits .b)) at (c .before .if1 .left)) (rw (back (s .fits .b)) at (c .if2 .left))
 
-floor-div-requires-2 : tie.Need-floor-div-requires-2
-floor-div-requires-2 c κs = record { lt = tt }
-
-outer : (c : tie.After-floor-div2) → let d = c .before .before in toZ w64 (ofZ w64 (c .floor-div2 .result)) ≡ shrZ (shrZ (d .before .args .w *ℤ (d .before .args .b -ℤ d .floor-div .result *ℤ pos units)) 100000) 100000
-outer c = back-ok (c .floor-div2 .result) (c .floor-div2 .ok) ∙ (rw (inner (c .before)) at (c .floor-div2 .ensures))
-
-add-result : tie.Need-add-result
-add-result c =
-    let d = c .before .before in
-    rw (back (d .before .fits .w), rh d, back (st d .fit3), outer c) (st d .fit4)
+scaled-wide-requires : tie.Need-scaled-wide-requires
+scaled-wide-requires c κs = let s = c .before in rw (back (s .fits .w), back (s .fits .b)) (s .pre)
 
 returns : tie.Need-returns
 returns c =
-    let d = c .before .before in
-    rw (back (d .before .fits .w), rh d, back (st d .fit3), outer c, back (st d .fit4)) (st d .is)
+    let s = c .before .before in
+    back-ok (c .scaled-wide .result) (c .scaled-wide .ok) ∙ (rw (back (s .fits .w), back (s .fits .b)) at (c .scaled-wide .ensures))
+
+mul-shift-requires : tie.Need-mul-shift-requires
+mul-shift-requires c κs =
+    let s = c .before .before in
+    (lit< tt, refl, rw (back (s .fits .w), back (s .fits .b)) (scaled-splits (s .args .w) (s .args .b) (s .pre .0) (s .pre .1 .0) (short c)))
+
+-- the quotient by 1,024
+over : (c : tie.After-mul-shift) → let s = c .before .before .before in toZ w64 (ofZ w64 (c .mul-shift .result)) ≡ shrZ (s .args .b *ℤ s .args .w) 1024
+over c =
+    let s = c .before .before .before in
+    back-ok (c .mul-shift .result) (c .mul-shift .ok) ∙ (rw (back (s .fits .w), back (s .fits .b)) at (c .mul-shift .ensures))
+
+floor-div-requires : tie.Need-floor-div-requires
+floor-div-requires c κs =
+    let s = c .before .before .before in
+    rw (over c) (scaled-divides (s .args .w) (s .args .b) (s .pre .0) (s .pre .1 .0) (short (c .before)))
+
+returns-2 : tie.Need-returns-2
+returns-2 c =
+    let s = c .before .before .before .before in
+    back-ok (c .floor-div .result) (c .floor-div .ok)
+    ∙ (rw (over (c .before)) at (c .floor-div .ensures))
+    ∙ twice (s .args .b *ℤ s .args .w) 1024 9765625
+    ∙ ap (λ (x : ℤ). shrZ x units) (*ℤ-comm (s .args .b) (s .args .w))
 
 pub scaled-spec : {M : Type 1} → statement M
-scaled-spec =
-    tie.close
-    (tie.spec
-    floor-div-requires
-    mul-l
-    sub-l
-    mul-result
-    mul-div-requires
-    floor-div-requires-2
-    add-result
-    returns)
+scaled-spec = tie.close (tie.spec scaled-wide-requires returns mul-shift-requires floor-div-requires returns-2)

@@ -8,9 +8,9 @@ use lib.IntN.{ℤ, pos, natAbs, _+ℤ_, _*ℤ_}
 use lib.Signed.{_≤ℤ_, shrZ}
 use mir.Syntax.{w64}
 use mir.Val.{toZ, ofZ}
-use Rattle.weight.specs.Weight.{units, IsWeight}
+use Rattle.weight.specs.Weight.{units, tolerance, IsWeight}
 use Rattle.weight.specs.Choice.{weightOf}
-use Rattle.weight.proofs.Near.{weight-near}
+use Rattle.weight.proofs.Near.{weight-is}
 use Rattle.fit.specs.Range.{In, AllIn}
 use Rattle.fit.specs.Fit.{firstOf, secondOf, termsOf, bicubic, exponent}
 use Rattle.fit.proofs.Machine.{back, back-ok, in-back, in-ok}
@@ -48,9 +48,9 @@ exponent-is c =
     (rw (back (s .fits .y), back (s .fits .z)) at (c .exponent .ensures))
     ∙ ap (λ (k : List ℤ). exponent k (s .args .y) (s .args .z)) (c .before .exponent-terms .ensures)
 
-weight-is : (c : tie.After-weight) → let s = c .before .before .before .before .before .before in
+weight-chosen : (c : tie.After-weight) → let s = c .before .before .before .before .before .before in
     c .weight .result ≡ weightOf (exponent (termsOf (temperaturePiece (s .args .band) (s .args .i))) (s .args .y) (s .args .z))
-weight-is c = (rw (back-ok (c .before .exponent .result) (c .before .exponent .ok)) at (c .weight .ensures)) ∙ ap weightOf (exponent-is (c .before))
+weight-chosen c = (rw (back-ok (c .before .exponent .result) (c .before .exponent .ok)) at (c .weight .ensures)) ∙ ap weightOf (exponent-is (c .before))
 
 second : (c : tie.After-bicubic2) → let s = c .before .before .before .before .before .before .before .before in
     c .bicubic2 .result ≡ bicubic (secondOf (temperaturePiece (s .args .band) (s .args .i))) (s .args .y) (s .args .z)
@@ -97,8 +97,8 @@ bicubic-requires-2 c κs =
     (rw (c .second-bicubic .ensures) (piece-small (s .args .band) (s .args .i) .second), (in-y s, in-z s))
 
 weighed : (c : tie.After-weight) → let s = c .before .before .before .before .before .before in
-    IsWeight 1 (exponent (termsOf (temperaturePiece (s .args .band) (s .args .i))) (s .args .y) (s .args .z)) (toZ w64 (ofZ w64 (c .weight .result)))
-weighed c = rw (back-ok (c .weight .result) (c .weight .ok), weight-is c) (weight-near _)
+    IsWeight tolerance (exponent (termsOf (temperaturePiece (s .args .band) (s .args .i))) (s .args .y) (s .args .z)) (toZ w64 (ofZ w64 (c .weight .result)))
+weighed c = rw (back-ok (c .weight .result) (c .weight .ok), weight-chosen c) (weight-is _)
 
 fitted-requires : tie.Need-fitted-requires
 fitted-requires c κs =
@@ -118,7 +118,7 @@ returns-2 c =
     let b = c .before in
     rw (back-ok (c .fitted .result) (c .fitted .ok), back-ok (w .weight .result) (w .weight .ok))
     (joint-edge (s .args .band) (s .args .i) (s .args .y) (s .args .z) (a .bicubic .result) (w .weight .result) (b .bicubic2 .result) (c .fitted .result)
-    (some (c .before .before .before .before .before .before)) (s .pre .piece) (first a) (weight-is w) (second b)
+    (some (c .before .before .before .before .before .before)) (s .pre .piece) (first a) (weight-chosen w) (second b)
     (rw (back-ok (a .bicubic .result) (a .bicubic .ok), back-ok (w .weight .result) (w .weight .ok), back-ok (b .bicubic2 .result) (b .bicubic2 .ok)) at (c .fitted .ensures)))
 
 pub fit-at-spec : {M : Type 1} → statement M
