@@ -21,9 +21,10 @@ SHARED = $(BUILD)/libairstate.so.$(VERSION)
 
 all: $(STATIC) $(SHARED) $(BUILD)/airstate.pc
 
-# The archive is written by the prover's tool after it has proved the crates.
-$(STATIC):
+# The archive is written by the prover's tool after it has proved the crates, again where one of their files is newer.
+$(STATIC): crates.txt $(shell find crates -name '*.rt' -o -name '*.antt')
 	rt staticlib airstate
+	@touch $@
 
 # Only the header's entries are visible in the shared library.
 $(SHARED): $(STATIC) host/airstate.map
@@ -38,8 +39,9 @@ $(BUILD)/airstate.pc: host/airstate.pc.in
 
 # The program is built only where every crate below it is proved.
 run:
-	rt check listing > target.log 2>&1 || { tail -n 20 target.log; exit 1; }
-	@rm -f target.log; mkdir -p target/run; cp host/samples/sample.eas target/run/sheet.eas
+	@mkdir -p target/run; cp host/samples/sample.eas target/run/sheet.eas
+	@echo 'proving the listing program: some minutes at the first time' >&2
+	@rt check listing > target/run/check.log 2>&1 || { tail -n 20 target/run/check.log; exit 1; }
 	@cd target/run && ../bin/listing < ../../crates/listing/stdin
 
 # The pkg-config file is written again, since PREFIX may differ from the build's.

@@ -128,99 +128,34 @@ static void make_names(void) {
     name_list_size = used;
 }
 
-static double library_temperature(void) {
-    double sum = 0;
-    for (size_t i = 0; i < states; i++)
-        sum += (double)eas_evaluate(1, temperatures[i].first, temperatures[i].second).value;
-    return sum;
-}
-
-static double listing_temperature(void) {
-    double sum = 0;
-    for (size_t i = 0; i < states; i++)
-        sum += tgas1_temperature(temperatures[i].first, temperatures[i].second);
-    return sum;
-}
-
-static double library_entropy(void) {
-    double sum = 0;
-    for (size_t i = 0; i < states; i++)
-        sum += (double)eas_evaluate(2, entropies[i].first, entropies[i].second).value;
-    return sum;
-}
-
-static double listing_entropy(void) {
-    double sum = 0;
-    for (size_t i = 0; i < states; i++)
-        sum += tgas2_entropy(entropies[i].first, entropies[i].second);
-    return sum;
-}
-
 enum { SMALL_CALLS = 30000, FULL_CALLS = 300 };
 
-static double library_search_small(void) {
-    double sum = 0;
-    for (int i = 0; i < SMALL_CALLS; i++)
-        sum += (double)eas_search(small_sheet, small_size, small_names[i % 3].bytes, small_names[i % 3].length).value;
-    return sum;
-}
-
-static double baseline_search_small(void) {
-    double sum = 0;
-    for (int i = 0; i < SMALL_CALLS; i++)
-        sum += baseline_search(small_sheet, small_size, small_names[i % 3].bytes, small_names[i % 3].length).value;
-    return sum;
-}
-
-static double library_search_full(void) {
-    double sum = 0;
-    for (int i = 0; i < FULL_CALLS; i++)
-        sum += (double)eas_search(full_sheet, full_size, full_names[i].bytes, full_names[i].length).value;
-    return sum;
-}
-
-static double baseline_search_full(void) {
-    double sum = 0;
-    for (int i = 0; i < FULL_CALLS; i++)
-        sum += baseline_search(full_sheet, full_size, full_names[i].bytes, full_names[i].length).value;
-    return sum;
-}
-
-static double library_line(void) {
-    uint8_t line[LINE_MOST];
-    double sum = 0;
-    for (int i = 0; i < SMALL_CALLS; i++) {
-        text name = small_names[i % 3];
-        sum += (double)eas_line(small_sheet, small_size, name.bytes, name.length, line, sizeof line).length;
+/* A timed job: the sum of one number a call, so that no call can be left out. */
+#define JOB(name, calls, number)                                                                                       \
+    static double name(void) {                                                                                         \
+        double sum = 0;                                                                                                \
+        for (size_t i = 0; i < (calls); i++)                                                                           \
+            sum += (double)(number);                                                                                   \
+        return sum;                                                                                                    \
     }
-    return sum;
-}
 
-static double plain_line(void) {
-    char line[LINE_MOST];
-    double sum = 0;
-    for (int i = 0; i < SMALL_CALLS; i++)
-        sum +=
-            (double)baseline_line(small_sheet, small_size, small_names[i % 3].bytes, small_names[i % 3].length, line);
-    return sum;
-}
+static uint8_t line[LINE_MOST];
 
-static double library_lines(void) {
-    uint8_t line[LINE_MOST];
-    double sum = 0;
-    for (int i = 0; i < NAMES; i++)
-        sum += (double)eas_line(full_sheet, full_size, full_names[i].bytes, full_names[i].length, line, sizeof line)
-                   .length;
-    return sum;
-}
+#define SMALL small_sheet, small_size, small_names[i % 3].bytes, small_names[i % 3].length
+#define FULL full_sheet, full_size, full_names[i].bytes, full_names[i].length
 
-static double plain_lines(void) {
-    char line[LINE_MOST];
-    double sum = 0;
-    for (int i = 0; i < NAMES; i++)
-        sum += (double)baseline_line(full_sheet, full_size, full_names[i].bytes, full_names[i].length, line);
-    return sum;
-}
+JOB(library_temperature, states, eas_evaluate(1, temperatures[i].first, temperatures[i].second).value)
+JOB(listing_temperature, states, tgas1_temperature(temperatures[i].first, temperatures[i].second))
+JOB(library_entropy, states, eas_evaluate(2, entropies[i].first, entropies[i].second).value)
+JOB(listing_entropy, states, tgas2_entropy(entropies[i].first, entropies[i].second))
+JOB(library_search_small, SMALL_CALLS, eas_search(SMALL).value)
+JOB(baseline_search_small, SMALL_CALLS, baseline_search(SMALL).value)
+JOB(library_search_full, FULL_CALLS, eas_search(FULL).value)
+JOB(baseline_search_full, FULL_CALLS, baseline_search(FULL).value)
+JOB(library_line, SMALL_CALLS, eas_line(SMALL, line, sizeof line).length)
+JOB(plain_line, SMALL_CALLS, baseline_line(SMALL, (char *)line))
+JOB(library_lines, NAMES, eas_line(FULL, line, sizeof line).length)
+JOB(plain_lines, NAMES, baseline_line(FULL, (char *)line))
 
 static const char *program, *self;
 

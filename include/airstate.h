@@ -92,7 +92,7 @@ eas_text eas_line(const uint8_t *sheet, size_t n, const uint8_t *spelled, size_t
 /* Spells a raw name: 8, 14. */
 eas_text eas_spell(const uint8_t *name, size_t n, uint8_t *out, size_t room);
 
-/* Reads a spelling into 40 bytes: 7, 8. */
+/* Reads a spelling into 40 bytes, which must be there (no null pointer): 7, 8. */
 eas_text eas_read(const uint8_t *spelled, size_t n, uint8_t name[40]);
 
 #ifdef __cplusplus

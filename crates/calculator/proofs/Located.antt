@@ -11,7 +11,7 @@ use Rattle.sheet.specs.declared.Lookup.the-variants.{Hit, Miss}
 use Rattle.sheet.specs.Sheet
 use Rattle.sheet.specs.Sheet.{Sheet, records, sheetOf, numberOf, Accepted}
 use Rattle.sheet.specs.Find.{findIn, findBy, findOf, Inside}
-use Rattle.sheet.proofs.Accept.{ready}
+use Rattle.sheet.proofs.Accept.{accepted-is}
 use Rattle.sheet.proofs.Searching.{find-inside}
 use Rattle.calculator.specs.Search.{locateName, locateIn, locate}
 
@@ -20,14 +20,12 @@ module _ (s spelling : List ℕ) where
   pub name-refused : (k : ℕ) → Accepted s → nameOf spelling ≡ refused k → Miss k ≡ locate s spelling
   unfolding locate
   name-refused k h e =
-      let r = ready s h in
-      sym (ap (locateIn s spelling) (r .is) ∙ ap (locateName s _) e)
+      sym (ap (locateIn s spelling) (accepted-is s h) ∙ ap (locateName s _) e)
 
   pub name-read : (name : List ℕ) → Accepted s → nameOf spelling ≡ text name → findOf s name ≡ locate s spelling
   unfolding locate
   name-read name h e =
-      let r = ready s h in
-      ap (λ (x : Sheet). findBy x s name) (r .is) ∙ sym (ap (locateIn s spelling) (r .is) ∙ ap (locateName s _) e)
+      ap (λ (x : Sheet). findBy x s name) (accepted-is s h) ∙ sym (ap (locateIn s spelling) (accepted-is s h) ∙ ap (locateName s _) e)
 
   -- a sheet that its check refuses
   pub sheet-refused : (n : ℕ) → n ≡ numberOf (sheetOf s) → (n ≡ 0 → ⊥) → Miss n ≡ locate s spelling

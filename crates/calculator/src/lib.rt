@@ -3,15 +3,21 @@ use air::Answer;
 use octets::Outcome;
 use sheet::Lookup;
 ghost use mathlib.Core.Path.{_≡_};
-ghost use Rattle.sheet.specs.Sheet.{Accepted};
 ghost use Rattle.sheet.specs.Find.{handedBack};
+ghost use Rattle.sheet.specs.Index.{Indexed};
 ghost use Rattle.air.specs.Held.{held};
 ghost use Rattle.air.specs.Choices.{chosen};
 ghost use Rattle.calculator.specs.Search.{locate, answerAt, searchBy};
 
-// The record that a spelling finds in a sheet that was checked.
-pub fn locate_in(sheet: &[u8], spelled: &[u8]) -> Lookup
-    requires { ⌜ Accepted (now sheet) ⌝ }
+// The record that a spelling finds in a sheet that is indexed.
+pub fn locate_in(
+    sheet: &[u8],
+    starts: &[u16; 3449],
+    heads: &[u16; 4096],
+    next: &[u16; 3449],
+    spelled: &[u8],
+) -> Lookup
+    requires { ⌜ Indexed (now sheet) (now starts) (now heads) (now next) ⌝ }
     ensures { λ r. ⌜ r ≡ locate (now (sheet .entry)) (now (spelled .entry)) ⌝ }
 {
     let name = name::read(spelled);
@@ -19,7 +25,7 @@ pub fn locate_in(sheet: &[u8], spelled: &[u8]) -> Lookup
     let outcome = name.outcome;
     match outcome {
         Outcome::Refused(number) => Lookup::Miss(number),
-        Outcome::Done(n) => sheet::find(sheet, &bytes[..n]),
+        Outcome::Done(n) => sheet::find(sheet, starts, heads, next, &bytes[..n]),
     }
 }
 
@@ -27,11 +33,14 @@ pub fn locate_in(sheet: &[u8], spelled: &[u8]) -> Lookup
 pub fn locate(sheet: &[u8], spelled: &[u8]) -> Lookup
     ensures { λ r. ⌜ r ≡ locate (now (sheet .entry)) (now (spelled .entry)) ⌝ }
 {
-    let number = sheet::check(sheet);
+    let mut starts = distinct::no_links();
+    let mut heads = distinct::no_heads();
+    let mut next = distinct::no_links();
+    let number = sheet::index(sheet, &mut starts, &mut heads, &mut next);
     if number != 0 {
         return Lookup::Miss(number);
     }
-    locate_in(sheet, spelled)
+    locate_in(sheet, &starts, &heads, &next, spelled)
 }
 
 // The answer for what was found.
@@ -44,12 +53,18 @@ fn answer_at(found: Lookup) -> Answer
     }
 }
 
-// The answer for a spelling in a sheet that was checked.
-pub fn answer_in(sheet: &[u8], spelled: &[u8]) -> Answer
-    requires { ⌜ Accepted (now sheet) ⌝ }
+// The answer for a spelling in a sheet that is indexed.
+pub fn answer_in(
+    sheet: &[u8],
+    starts: &[u16; 3449],
+    heads: &[u16; 4096],
+    next: &[u16; 3449],
+    spelled: &[u8],
+) -> Answer
+    requires { ⌜ Indexed (now sheet) (now starts) (now heads) (now next) ⌝ }
     ensures { λ r. ⌜ held r ≡ searchBy chosen (now (sheet .entry)) (now (spelled .entry)) ⌝ }
 {
-    answer_at(locate_in(sheet, spelled))
+    answer_at(locate_in(sheet, starts, heads, next, spelled))
 }
 
 // The answer for a sheet and a spelling of any bytes.

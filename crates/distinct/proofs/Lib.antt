@@ -1,5 +1,6 @@
+pub mod Same
 pub mod Names
 pub mod Pairs
 pub mod Store
-pub mod Table
 pub mod Walk
+pub mod Table

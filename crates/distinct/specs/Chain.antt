@@ -1,12 +1,12 @@
--- Chained hashing of names: what the functions behind `repeats` promise each other.
+-- Chained hashing of names: the table that `repeats` leaves and `place_of` reads, and what the functions behind them promise each other.
 -- Record j of the list of starts is linked by the number j + 1; the link 0 ends a chain.
 use mathlib.Core.Bool.{Bool, true, false}
 use mathlib.Core.List.{List, [], _∷_}
 use mathlib.Core.Path.{_≡_}
 use Prim.Native.Nat.{ℕ, suc, _+_, _*_, _/_, _%_, _≤_, _<_}
-use lib.ListN.{getD}
+use lib.ListN.{length, getD}
 use Rattle.octets.specs.Bytes.{same}
-use Rattle.distinct.specs.Distinct.{nameAt}
+use Rattle.distinct.specs.Distinct.{nameAt, NamesFit}
 
 -- each byte is added, and the sum multiplied by an odd number near 2^32 over the golden ratio, modulo 2^32
 unfoldable pub hashFrom : ℕ → List ℕ → ℕ
@@ -39,6 +39,26 @@ abbrev pub Missed : List ℕ → List ℕ → List ℕ → List ℕ → ℕ → 
 Missed s starts next name k = (j : ℕ) → Reaches next k j → hasName s starts name j ≡ false
 
 -- a walk from a link: either it meets a record with the name, or there is none on the way
-pub data Walked (s starts next name : List ℕ) (from : ℕ) : Bool → Type 0 where
-  met : (j : ℕ) → j < from → hasName s starts name j ≡ true → Walked s starts next name from true
-  missed : Missed s starts next name from → Walked s starts next name from false
+pub data Walked (s starts next name : List ℕ) (from : ℕ) : ℕ → Type 0 where
+  met : {j : ℕ} → j < from → hasName s starts name j ≡ true → Walked s starts next name from (suc j)
+  missed : Missed s starts next name from → Walked s starts next name from 0
+
+-- n links, all of them 0
+pub record NoLinks (n : ℕ) (links : List ℕ) : Type 0 where
+  pub long : length links ≡ n
+  pub none : (j : ℕ) → getD links j 0 ≡ 0
+
+-- a table of the first n records: each of them is met on the way from the head of its name's chain
+pub record Table (s starts heads next : List ℕ) (n : ℕ) : Type 0 where
+  pub most : n ≤ 3449
+  pub fit : NamesFit s starts n
+  pub heads-long : length heads ≡ 4096
+  pub next-long : length next ≡ 3449
+  pub low : (h : ℕ) → getD heads h 0 ≤ n
+  pub falling : Falling next
+  pub linked : (j : ℕ) → j < n → Reaches next (getD heads (hashOf (nameOf s starts j)) 0) j
+
+-- the place of a name among the first n records: the number j + 1 of one that has it, or 0 where none has it
+pub record Placed (s starts : List ℕ) (n : ℕ) (name : List ℕ) (r : ℕ) : Type 0 where
+  pub found : (j : ℕ) → r ≡ j + 1 → (j < n) × (hasName s starts name j ≡ true)
+  pub absent : r ≡ 0 → (j : ℕ) → j < n → hasName s starts name j ≡ false

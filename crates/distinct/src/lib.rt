@@ -1,12 +1,13 @@
-// Whether the names of a sheet's records are all different: chained hashing in two local arrays, one walk over the records.
+// The names of a sheet's records by chained hashing in two lent arrays: whether they are all different, and which record has a name.
 // The time is near linear for names that spread over the chains, and grows with the square of the count where a sheet is made so that all
 // of its names fall into one chain.
 ghost use mathlib.Core.Path.{_≡_};
-ghost use Prim.Native.Nat.{_+_, _<_, _≤_};
+ghost use mathlib.Core.Bool.{false};
+ghost use Prim.Native.Nat.{ℕ, _<_, _≤_};
 ghost use lib.ListN.{length, take};
-ghost use Rattle.octets.specs.Bytes.{part, same};
+ghost use Rattle.octets.specs.Bytes.{same};
 ghost use Rattle.distinct.specs.Distinct.{nameAt, NameFits, NamesFit, repeats};
-ghost use Rattle.distinct.specs.Chain.{hashOf, Falling, Walked};
+ghost use Rattle.distinct.specs.Chain.{hashOf, NoLinks, Falling, Walked, Table, Placed};
 
 fn wide8(x: u8) -> usize
     ensures { λ r. ⌜ (r ≡ x) × (r < 256) ⌝ }
@@ -20,14 +21,43 @@ fn wide16(x: u16) -> usize
     x as usize
 }
 
-// Whether the n bytes from a on are those from b on.
-fn same_part(s: &[u8], a: usize, b: usize, n: usize) -> bool
-    requires { ⌜ (a + n ≤ length (now s)) × (b + n ≤ length (now s)) ⌝ }
-    ensures { λ r. ⌜ r ≡ same (part (now (s .entry)) a n) (part (now (s .entry)) b n) ⌝ }
+// Heads of chains that are all empty.
+pub fn no_heads() -> [u16; 4096]
+    ensures { λ r. ⌜ NoLinks 4096 r ⌝ }
 {
+    [0u16; 4096]
+}
+
+// A 0 for each record that fits into a sheet, at most 3,448: links that all end their chain, or places that are not known yet.
+pub fn no_links() -> [u16; 3449]
+    ensures { λ r. ⌜ NoLinks 3449 r ⌝ }
+{
+    [0u16; 3449]
+}
+
+// The name of the record that starts at a place.
+fn name_at<'a>(s: &'a [u8], at: usize) -> &'a [u8]
+    requires { ⌜ NameFits (now s) at ⌝ }
+    ensures { λ r. ⌜ now r ≡ nameAt (now (s .entry)) at ⌝ }
+{
+    let start = at + 1;
+    let end = start + wide8(s[at]);
+    &s[start..end]
+}
+
+// Whether the record that starts at a place has a name: its length byte is compared first.
+fn has_name(s: &[u8], at: usize, name: &[u8]) -> bool
+    requires { ⌜ NameFits (now s) at ⌝ }
+    ensures { λ r. ⌜ r ≡ same (nameAt (now (s .entry)) at) (now (name .entry)) ⌝ }
+{
+    let n = wide8(s[at]);
+    if n != name.len() {
+        return false;
+    }
+    let start = at + 1;
     let mut i = 0;
     while i < n {
-        if s[a + i] != s[b + i] {
+        if s[start + i] != name[i] {
             return false;
         }
         i += 1;
@@ -35,66 +65,57 @@ fn same_part(s: &[u8], a: usize, b: usize, n: usize) -> bool
     true
 }
 
-// Whether the records that start at a and at b have the same name.
-fn same_name(s: &[u8], a: usize, b: usize) -> bool
-    requires { ⌜ NameFits (now s) a × NameFits (now s) b ⌝ }
-    ensures { λ r. ⌜ r ≡ same (nameAt (now (s .entry)) a) (nameAt (now (s .entry)) b) ⌝ }
+// The chain of a name.
+fn hash_of(name: &[u8]) -> usize
+    ensures { λ r. ⌜ (r ≡ hashOf (now (name .entry))) × (r < 4096) ⌝ }
 {
-    let n = wide8(s[a]);
-    let m = wide8(s[b]);
-    if n != m {
-        return false;
-    }
-    same_part(s, a + 1, b + 1, n)
-}
-
-// The chain of the name of the record that starts at p.
-fn hash_of(s: &[u8], p: usize) -> usize
-    requires { ⌜ NameFits (now s) p ⌝ }
-    ensures { λ r. ⌜ (r ≡ hashOf (nameAt (now (s .entry)) p)) × (r < 4096) ⌝ }
-{
-    let n = wide8(s[p]);
-    let end = p + 1 + n;
-    let mut at = p + 1;
     let mut h: usize = 0;
-    while at < end {
-        h = (h + wide8(s[at])) * 2654435769 % 4294967296;
-        at += 1;
+    let mut i = 0;
+    while i < name.len() {
+        h = (h + wide8(name[i])) * 2654435769 % 4294967296;
+        i += 1;
     }
     h / 1048576
 }
 
-// Whether a record on the way from a link has the name of the record that starts at p.
-fn in_chain(s: &[u8], starts: &[u16; 3449], next: &[u16; 3449], from: u16, p: usize) -> bool
-    requires { ⌜ (from ≤ 3449) × NamesFit (now s) (now starts) from × NameFits (now s) p × Falling (now next) ⌝ }
-    ensures { λ r. ⌜ Walked (now (s .entry)) (now (starts .entry)) (now (next .entry)) (nameAt (now (s .entry)) p) from r ⌝ }
+// The link to the record that has a name, on the way from a link; 0 where there is none.
+fn in_chain(s: &[u8], starts: &[u16; 3449], next: &[u16; 3449], from: u16, name: &[u8]) -> usize
+    requires { ⌜ (from ≤ 3449) × NamesFit (now s) (now starts) from × Falling (now next) ⌝ }
+    ensures { λ r. ⌜ Walked (now (s .entry)) (now (starts .entry)) (now (next .entry)) (now (name .entry)) from r ⌝ }
 {
     let mut k = wide16(from);
     while 0 < k {
         let j = k - 1;
         let a = wide16(starts[j]);
-        if same_name(s, a, p) {
-            return true;
+        if has_name(s, a, name) {
+            return k;
         }
         k = wide16(next[j]);
     }
-    false
+    0
 }
 
-// Whether two of the first n records have the same name; `starts` holds the places of their length bytes.
+// Whether two of the first n records have the same name; `starts` holds the places of their length bytes. Where they all differ, the
+// lent arrays become a table of them.
 // An array parameter does not tell the proof how long its list is, so the caller says it.
-pub fn repeats(s: &[u8], starts: &[u16; 3449], n: usize) -> bool
-    requires { ⌜ (n ≤ 3449) × NamesFit (now s) (now starts) n × (length (now starts) ≡ 3449) ⌝ }
+pub fn repeats(
+    s: &[u8],
+    starts: &[u16; 3449],
+    n: usize,
+    heads: &mut [u16; 4096],
+    next: &mut [u16; 3449],
+) -> bool
+    requires { ⌜ (n ≤ 3449) × NamesFit (now s) (now starts) n × (length (now starts) ≡ 3449) × NoLinks 4096 (now heads) × NoLinks 3449 (now next) ⌝ }
     ensures { λ r. ⌜ r ≡ repeats (now (s .entry)) (take n (now (starts .entry))) ⌝ }
+    ensures { λ r. ⌜ (r ≡ false → Table (now (s .entry)) (now (starts .entry)) (now (heads .exit)) (now (next .exit)) n) ⌝ }
 {
-    let mut heads = [0u16; 4096];
-    let mut next = [0u16; 3449];
     let mut i: usize = 0;
     while i < n {
         let p = wide16(starts[i]);
-        let h = hash_of(s, p);
+        let name = name_at(s, p);
+        let h = hash_of(name);
         let first = heads[h];
-        if in_chain(s, starts, &next, first, p) {
+        if in_chain(s, starts, next, first, name) != 0 {
             return true;
         }
         next[i] = first;
@@ -102,4 +123,19 @@ pub fn repeats(s: &[u8], starts: &[u16; 3449], n: usize) -> bool
         i += 1;
     }
     false
+}
+
+// The number j + 1 of the record that has a name, by a table of records; 0 where none of them has it.
+pub fn place_of(
+    s: &[u8],
+    starts: &[u16; 3449],
+    heads: &[u16; 4096],
+    next: &[u16; 3449],
+    name: &[u8],
+) -> usize
+    requires { ⌜ ((n : ℕ) × Table (now s) (now starts) (now heads) (now next) n) ⌝ }
+    ensures { λ r. ⌜ ((n : ℕ) → Table (now (s .entry)) (now (starts .entry)) (now (heads .entry)) (now (next .entry)) n → Placed (now (s .entry)) (now (starts .entry)) n (now (name .entry)) r) ⌝ }
+{
+    let h = hash_of(name);
+    in_chain(s, starts, next, heads[h], name)
 }

@@ -11,7 +11,8 @@ use lib.Dec.{leb}
 use borrow.Author.Tests.{le-leb}
 use Rattle.air.specs.Choices.{chosen}
 use Rattle.calculator.specs.Search.{searchBy}
-use Rattle.line.specs.Line.{line}
+use Rattle.line.specs.Line.{line, lineHeld}
+use Rattle.line.specs.declared.Line.{Line}
 use Rattle.octets.specs.Bytes.{part}
 use Rattle.octets.specs.Room.{text, refused, fitting, written}
 use Rattle.report.specs.Listing.{linesOf, linesBy}
@@ -45,36 +46,39 @@ module _ (sheet list : List ℕ) (start at : ℕ) (a : Along sheet list start at
   along-all h =
       sym (a .whole ∙ ap (λ (ns : List (List ℕ)). a .done ++ linesBy chosen sheet ns) (none-left list start h) ∙ append-nil (a .done))
 
-  module _ (end n : ℕ) (f : FirstLine list start end) (e : n ≡ length (one sheet (part list start (end - start)))) (h : n ≤ length (part list start (end - start)) + 67) where
+  module _ (end : ℕ) (x : Line) (f : FirstLine list start end) (e : x ≡ lineHeld (one sheet (part list start (end - start)))) (h : x .len ≤ length (part list start (end - start)) + 67) where
     abbrev this : List ℕ
     this = one sheet (part list start (end - start))
+
+    len-is : x .len ≡ length this
+    len-is = ap (λ (y : Line). y .len) e
 
     split : from sheet list start ≡ this ++ from sheet list (end + 1)
     unfolding linesBy
     split = ap (linesBy chosen sheet) (f .first)
 
     -- the next line is at most 67 bytes for each byte that it takes from the input
-    pub bound : at + n ≤ 67 * (end + 1)
+    pub bound : at + x .len ≤ 67 * (end + 1)
     bound =
         let i = f .from in
         let k = a .few in
         omega (arith, length-take-le (end - start) (drop start list) (omega (arith, length-drop start list, f .inside)))
 
-    pub along-next : Along sheet list (end + 1) (at + n)
+    pub along-next : Along sheet list (end + 1) (at + x .len)
     along-next =
         let k = f .inside in
         record {
           done = a .done ++ this;
           whole = a .whole ∙ ap (λ (l : List ℕ). a .done ++ l) split ∙ sym (append-assoc (a .done) this (from sheet list (end + 1)));
-          here = omega (arith, a .here, length-append (a .done) this);
+          here = omega (arith, a .here, length-append (a .done) this, len-is);
           few = bound;
           inside = omega arith;
         }
 
-    pub fits : (room : ℕ) → Enough (all sheet list) list room → at + n ≤ room
+    pub fits : (room : ℕ) → Enough (all sheet list) list room → at + x .len ≤ room
     fits room (measured k) =
         let w = ap length (a .whole ∙ ap (λ (l : List ℕ). a .done ++ l) split) in
-        omega (arith, w, length-append (a .done) (this ++ from sheet list (end + 1)), length-append this (from sheet list (end + 1)), a .here)
+        omega (arith, w, length-append (a .done) (this ++ from sheet list (end + 1)), length-append this (from sheet list (end + 1)), a .here, len-is)
     fits room (longest k) = let i = f .inside in omega (arith, bound)
 
 -- the same with the room that has these lines in front
@@ -95,28 +99,28 @@ module _ (sheet list out₀ out : List ℕ) (start at : ℕ) (w : Written sheet 
       let l : at ≡ length (all sheet list) = w .along .here ∙ ap length d in
       (l, w .holds ∙ ap (λ (t : List ℕ). t ++ drop at out₀) d ∙ ap (λ (n : ℕ). all sheet list ++ drop n out₀) l)
 
-  module _ (end n : ℕ) (f : FirstLine list start end) (e : n ≡ length (one sheet (part list start (end - start)))) (h : n ≤ length (part list start (end - start)) + 67)
-      (k : at + n ≤ length out₀) (last : List ℕ) (p : last ≡ take at out ++ (one sheet (part list start (end - start)) ++ drop (at + n) out)) where
-    pub written-next : Written sheet list out₀ last (end + 1) (at + n)
+  module _ (end : ℕ) (x : Line) (f : FirstLine list start end) (e : x ≡ lineHeld (one sheet (part list start (end - start)))) (h : x .len ≤ length (part list start (end - start)) + 67)
+      (k : at + x .len ≤ length out₀) (last : List ℕ) (p : last ≡ take at out ++ (one sheet (part list start (end - start)) ++ drop (at + x .len) out)) where
+    pub written-next : Written sheet list out₀ last (end + 1) (at + x .len)
     unfolding along-next
     written-next =
         let t : List ℕ = one sheet (part list start (end - start)) in
         let d : List ℕ = w .along .done in
         let l : length d ≡ at = sym (w .along .here) in
         let a : take at out ≡ d = ap (take at) (w .holds) ∙ take-at d (drop at out₀) at l in
-        let b : drop (at + n) out ≡ drop (at + n) out₀ =
-        ap (drop (at + n)) (w .holds)
-        ∙ subst (λ (m : ℕ). drop (m + n) (d ++ drop at out₀) ≡ drop n (drop at out₀)) l (drop-append-add d (drop at out₀) n)
-        ∙ drop-drop n at out₀ in
-        let q : last ≡ (d ++ t) ++ drop (at + n) out₀ =
+        let b : drop (at + x .len) out ≡ drop (at + x .len) out₀ =
+        ap (drop (at + x .len)) (w .holds)
+        ∙ subst (λ (m : ℕ). drop (m + x .len) (d ++ drop at out₀) ≡ drop (x .len) (drop at out₀)) l (drop-append-add d (drop at out₀) (x .len))
+        ∙ drop-drop (x .len) at out₀ in
+        let q : last ≡ (d ++ t) ++ drop (at + x .len) out₀ =
         p
-        ∙ ap (λ (x : List ℕ). x ++ (t ++ drop (at + n) out)) a
-        ∙ ap (λ (x : List ℕ). d ++ (t ++ x)) b
-        ∙ sym (append-assoc d t (drop (at + n) out₀)) in
+        ∙ ap (λ (y : List ℕ). y ++ (t ++ drop (at + x .len) out)) a
+        ∙ ap (λ (y : List ℕ). d ++ (t ++ y)) b
+        ∙ sym (append-assoc d t (drop (at + x .len) out₀)) in
         record {
-          along = along-next sheet list start at (w .along) end n f e h;
+          along = along-next sheet list start at (w .along) end x f e h;
           holds = q;
-          same = omega (arith, ap length q, length-append (d ++ t) (drop (at + n) out₀), length-append d t, length-drop (at + n) out₀);
+          same = omega (arith, ap (λ (y : Line). y .len) e, ap length q, length-append (d ++ t) (drop (at + x .len) out₀), length-append d t, length-drop (at + x .len) out₀);
           room = k;
         }
 

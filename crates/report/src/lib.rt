@@ -10,7 +10,7 @@ ghost use Rattle.air.specs.Choices.{chosen};
 ghost use Rattle.calculator.specs.Search.{searchBy};
 ghost use Rattle.line.specs.Line.{line, refusalRest, lineHeld};
 ghost use Rattle.octets.specs.Room.{text, fitting, written, outcomeOf};
-ghost use Rattle.sheet.specs.Sheet.{Accepted};
+ghost use Rattle.sheet.specs.Index.{Indexed};
 ghost use Rattle.report.specs.Listing.{linesOf, linesBy, listingBy};
 ghost use Rattle.report.specs.Steps.{FirstLine, Enough, longestOf};
 
@@ -34,13 +34,22 @@ pub fn line(sheet: &[u8], spelled: &[u8], out: &mut [u8]) -> Outcome
     put_line(line::line_of(spelled, answer), out)
 }
 
-// The line for a spelled name under a sheet that is accepted.
-fn line_in(sheet: &[u8], spelled: &[u8]) -> Line
-    requires { ⌜ Accepted (now sheet) ⌝ }
+// The line for a spelled name under a sheet that is indexed.
+fn line_in(
+    sheet: &[u8],
+    starts: &[u16; 3449],
+    heads: &[u16; 4096],
+    next: &[u16; 3449],
+    spelled: &[u8],
+) -> Line
+    requires { ⌜ Indexed (now sheet) (now starts) (now heads) (now next) ⌝ }
     ensures { λ r. ⌜ r ≡ lineHeld (line (now (spelled .entry)) (searchBy chosen (now (sheet .entry)) (now (spelled .entry)))) ⌝ }
     ensures { λ r. ⌜ r .len ≤ length (now (spelled .entry)) + 67 ⌝ }
 {
-    line::line_of(spelled, calculator::answer_in(sheet, spelled))
+    line::line_of(
+        spelled,
+        calculator::answer_in(sheet, starts, heads, next, spelled),
+    )
 }
 
 // Where the line that starts at a place ends.
@@ -59,15 +68,21 @@ fn line_end(list: &[u8], start: usize) -> usize
 }
 
 // How long all lines are together.
-fn measure(sheet: &[u8], list: &[u8]) -> usize
-    requires { ⌜ Accepted (now sheet) × (length (now list) ≤ 65536) ⌝ }
+fn measure(
+    sheet: &[u8],
+    starts: &[u16; 3449],
+    heads: &[u16; 4096],
+    next: &[u16; 3449],
+    list: &[u8],
+) -> usize
+    requires { ⌜ Indexed (now sheet) (now starts) (now heads) (now next) × (length (now list) ≤ 65536) ⌝ }
     ensures { λ r. ⌜ r ≡ length (linesBy chosen (now (sheet .entry)) (linesOf (now (list .entry)))) ⌝ }
 {
     let mut start = 0;
     let mut at = 0;
     while start < list.len() {
         let end = line_end(list, start);
-        let line = line_in(sheet, &list[start..end]);
+        let line = line_in(sheet, starts, heads, next, &list[start..end]);
         at += line.len;
         start = end + 1;
     }
@@ -87,8 +102,15 @@ fn append(line: Line, out: &mut [u8], at: usize) -> usize
 }
 
 // Writes all lines to the start of a room that is long enough for them, and gives their length.
-fn write_lines(sheet: &[u8], list: &[u8], out: &mut [u8]) -> usize
-    requires { ⌜ Accepted (now sheet) × (length (now list) ≤ 65536) ⌝ }
+fn write_lines(
+    sheet: &[u8],
+    starts: &[u16; 3449],
+    heads: &[u16; 4096],
+    next: &[u16; 3449],
+    list: &[u8],
+    out: &mut [u8],
+) -> usize
+    requires { ⌜ Indexed (now sheet) (now starts) (now heads) (now next) × (length (now list) ≤ 65536) ⌝ }
     requires { ⌜ Enough (linesBy chosen (now sheet) (linesOf (now list))) (now list) (length (now out)) ⌝ }
     ensures { λ r. ⌜ (r ≡ length (linesBy chosen (now (sheet .entry)) (linesOf (now (list .entry))))) × (r ≤ length (now (out .entry))) ⌝ }
     ensures { λ _. ⌜ now (out .exit) ≡ written (text (linesBy chosen (now (sheet .entry)) (linesOf (now (list .entry))))) (now (out .entry)) ⌝ }
@@ -97,7 +119,11 @@ fn write_lines(sheet: &[u8], list: &[u8], out: &mut [u8]) -> usize
     let mut at = 0;
     while start < list.len() {
         let end = line_end(list, start);
-        at = append(line_in(sheet, &list[start..end]), out, at);
+        at = append(
+            line_in(sheet, starts, heads, next, &list[start..end]),
+            out,
+            at,
+        );
         start = end + 1;
     }
     at
@@ -113,14 +139,17 @@ fn put_refused(word: &[u8], number: u32, out: &mut [u8]) -> Outcome
     put_line(line::build(word, Answer::Refused(number)), out)
 }
 
-// The whole listing, in lent room. The sheet is checked once. Room for the longest listing is written in one pass; else the
+// The whole listing, in lent room. The sheet is indexed once. Room for the longest listing is written in one pass; else the
 // lines are measured first, so that nothing is written where they do not fit.
 pub fn listing(sheet: &[u8], list: &[u8], out: &mut [u8]) -> Outcome
     ensures { λ _. ⌜ (longestOf (now (list .entry)) ≤ length (now (out .entry)) → length (listingBy chosen (now (sheet .entry)) (now (list .entry))) ≤ length (now (out .entry))) ⌝ }
     ensures { λ r. ⌜ r ≡ outcomeOf (fitting (length (now (out .entry))) (listingBy chosen (now (sheet .entry)) (now (list .entry)))) ⌝ }
     ensures { λ _. ⌜ now (out .exit) ≡ written (fitting (length (now (out .entry))) (listingBy chosen (now (sheet .entry)) (now (list .entry)))) (now (out .entry)) ⌝ }
 {
-    let number = sheet::check(sheet);
+    let mut starts = distinct::no_links();
+    let mut heads = distinct::no_heads();
+    let mut next = distinct::no_links();
+    let number = sheet::index(sheet, &mut starts, &mut heads, &mut next);
     if number != 0 {
         return put_refused(b"sheet", number, out);
     }
@@ -128,10 +157,10 @@ pub fn listing(sheet: &[u8], list: &[u8], out: &mut [u8]) -> Outcome
         return put_refused(b"list", 15, out);
     }
     if 67 * list.len() + 71 <= out.len() {
-        return Outcome::Done(write_lines(sheet, list, out));
+        return Outcome::Done(write_lines(sheet, &starts, &heads, &next, list, out));
     }
-    if out.len() < measure(sheet, list) {
+    if out.len() < measure(sheet, &starts, &heads, &next, list) {
         return Outcome::Refused(14);
     }
-    Outcome::Done(write_lines(sheet, list, out))
+    Outcome::Done(write_lines(sheet, &starts, &heads, &next, list, out))
 }

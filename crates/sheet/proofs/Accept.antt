@@ -1,21 +1,21 @@
--- A sheet's number from its header, its records' structure and their names; and what an accepted sheet gives a reader of its records.
+-- A sheet's number from its header, its records' structure and their names; and the records of an accepted sheet.
 use mathlib.Core.Bool.{Bool, true, false, cond, not, _||_}
-use mathlib.Core.List.{List, [], _∷_}
+use mathlib.Core.List.{List, []}
 use mathlib.Core.Option.{none, some}
 use mathlib.Core.Path.{_≡_, refl, sym, ap, ap₂, _∙_}
-use Prim.Native.Nat.{ℕ, zero, suc, _+_, _-_, _≤_}
+use Prim.Native.Nat.{ℕ, zero, suc, _≤_}
 use native.Mathlib.Omega.{arith}
 use borrow.Author.Tests.{eqb-true, ltb-false}
 use lib.Dec.{eqb, ltb}
-use lib.ListN.{length, getD, take, drop}
+use lib.ListN.{length, take}
 use Rattle.distinct.specs.Distinct.{repeats}
 use Rattle.octets.specs.Bytes.{numberAt}
 use Rattle.sheet.specs.Layout.{plainLayout, layoutOf}
-use Rattle.sheet.specs.Sheet.{Fields, Front, bad, front, frontOf, past, recordAt, Sheet, refused, records, isMarked, withLayout, sheetBy, sheetOf, numberOf, Accepted}
-use Rattle.sheet.specs.Structure.{faultOf, entryAt, headFault, faultFrom, placesFrom, Walked}
+use Rattle.sheet.specs.Sheet.{Sheet, refused, records, isMarked, withLayout, sheetBy, sheetOf, numberOf, Accepted}
+use Rattle.sheet.specs.Structure.{headFault, faultFrom, placesFrom, Walked}
 use Rattle.sheet.specs.declared.Record.{Record}
-use Rattle.sheet.proofs.Places.{or-false, fieldsAt, Sound, sound}
-use Rattle.sheet.proofs.Walk.{View, refuses, view, recordsFrom, twice, names, verdict, walk-verdict, repeats-names}
+use Rattle.sheet.proofs.Places.{or-false}
+use Rattle.sheet.proofs.Walk.{recordsFrom, twice, names, verdict, walk-verdict, repeats-names}
 
 -- the records of a sheet of version 1, and what ends their reading
 abbrev pub read : List ℕ → List Record
@@ -86,57 +86,20 @@ headed s e = long (ltb 65536 (length s)) refl e
     long true p h = absurd (omega arith)
     long false p h = short (ltb (length s) 7 || not (isMarked s)) refl (ltb-false 65536 (length s) p) h
 
--- an accepted sheet: its header, its records, all of them read to the end
-pub record Ready (s : List ℕ) : Type 0 where
-  pub head : Headed s
-  pub whole : fault s ≡ 0
-  pub is : sheetOf s ≡ records (read s)
-
-pub ready : (s : List ℕ) → Accepted s → Ready s
-ready s a = go (headFault s) refl
+-- the records of an accepted sheet are those that are read
+pub accepted-is : (s : List ℕ) → Accepted s → sheetOf s ≡ records (read s)
+accepted-is s a = go (headFault s) refl
   where
-    apart : (t : Bool) → twice (names s (read s)) ≡ t → headFault s ≡ 0 → cond t 16 (fault s) ≡ 0 → Ready s
+    apart : (t : Bool) → twice (names s (read s)) ≡ t → headFault s ≡ 0 → cond t 16 (fault s) ≡ 0 → sheetOf s ≡ records (read s)
     apart true p z h = absurd (omega arith)
-    apart false p z h =
-        record {
-          head = headed s z;
-          whole = h;
-          is = sheet-verdict s ∙ rw (z, p, h);
-        }
+    apart false p z h = sheet-verdict s ∙ rw (z, p, h)
 
-    go : (k : ℕ) → headFault s ≡ k → Ready s
+    go : (k : ℕ) → headFault s ≡ k → sheetOf s ≡ records (read s)
     go zero z = apart (twice (names s (read s))) refl z (sym (number-records s z) ∙ a)
     go (suc k) z =
         let n : headFault s ≡ 0 → ⊥ = λ e. omega arith in
         let m : headFault s ≡ 0 = sym (number-head s n) ∙ a in
         absurd (n m)
-
--- at a place where records are left, an accepted sheet has a record, and goes on behind it
-pub record Ahead (s : List ℕ) (left at : ℕ) : Type 0 where
-  pub here : Sound s at
-  pub rest : faultFrom plainLayout s (left - 1) (at + 18 + getD s at 0) ≡ 0
-  pub is : recordsFrom plainLayout s left at ≡ entryAt s at ∷ recordsFrom plainLayout s (left - 1) (at + 18 + getD s at 0)
-
-pub ahead : (s : List ℕ) (left at : ℕ) → (left ≡ 0 → ⊥) → faultFrom plainLayout s left at ≡ 0 → Ahead s left at
-unfolding faultFrom recordsFrom
-ahead s zero at z e = absurd (z refl)
-ahead s (suc left) at z e = go (frontOf plainLayout (drop at s)) refl (view plainLayout (drop at s)) e
-  where
-    go : (t : Front) → frontOf plainLayout (drop at s) ≡ t → View (drop at s) t
-        → _≡_ {A = ℕ} (elim t as (λ x. ℕ) [ bad k ↦ k | front f ↦ faultFrom plainLayout s left (past at f) ]) 0 → Ahead s (suc left) at
-    go (bad k) p (refuses n) h = absurd (n h)
-    go (front f) p v h =
-        let o : Sound s at = sound s at (ap faultOf p) in
-        let g : suc left - 1 ≡ left = omega arith in
-        let q : at + 18 + getD s at 0 + 0 ≡ at + 18 + getD s at 0 = omega arith in
-        let w : f ≡ fieldsAt s at = cc (o .is) in
-        record {
-          here = o;
-          rest = ap₂ (faultFrom plainLayout s) g (sym q) ∙ ap (λ (x : Fields). faultFrom plainLayout s left (past at x)) (sym w) ∙ h;
-          is =
-              ap (λ (x : Front). elim x as (λ y. List Record) [ bad k ↦ [] | front x ↦ recordAt at x ∷ recordsFrom plainLayout s left (past at x) ]) (o .is)
-              ∙ ap₂ (λ (l a : ℕ). entryAt s at ∷ recordsFrom plainLayout s l a) (sym g) q;
-        }
 
 -- the number of a sheet, from a walk over its records
 pub number-walked : (s : List ℕ) (n number count : ℕ) (starts : List ℕ) → headFault s ≡ 0 → n ≡ numberAt 2 s 5 → Walked s n number count starts

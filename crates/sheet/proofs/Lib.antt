@@ -1,12 +1,11 @@
 pub mod Numbers
 pub mod Places
-pub mod Same
 pub mod Steps
-pub mod Names
 pub mod Head
 pub mod Walk
 pub mod Accept
 pub mod Searching
 pub mod Turns
 pub mod Locate
+pub mod Kept
 pub mod Local

@@ -16,7 +16,7 @@ use Rattle.sheet.specs.Sheet.{Fields, Front, bad, front, frontOf, record
 use Rattle.sheet.specs.declared.Lookup.the-variants.{Hit, Miss}
 use Rattle.sheet.specs.declared.Record.{Record}
 use Rattle.sheet.proofs.Places.{or-false}
-use Rattle.sheet.proofs.Same.{same-refl}
+use Rattle.distinct.proofs.Same.{same-refl}
 use Rattle.sheet.proofs.Walk.{Whole, View, reads, view}
 
 -- what is found stays found where more records follow

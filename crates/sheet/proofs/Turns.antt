@@ -1,14 +1,13 @@
 -- One turn of the walk over the records that keeps their places.
 use mathlib.Core.Bool.{Bool, true, false, cond}
 use mathlib.Core.List.{List, [], _∷_, _++_, append-nil}
-use mathlib.Core.Path.{_≡_, refl, sym, ap, ap₂, subst, _∙_}
+use mathlib.Core.Path.{_≡_, refl, sym, ap, ap₂, _∙_}
 use Prim.Native.Nat.{ℕ, zero, suc, _+_, _-_, _*_, _≤_, _<_}
 use native.Mathlib.Numerals.{add-one}
 use native.Mathlib.Omega.{arith}
 use lib.Dec.{eqb}
 use lib.ListN.{length, getD, take, drop, set, length-set}
-use lib.Seq.{take-suc-set, append-snoc, length-take-le, getD-take}
-use Rattle.distinct.specs.Distinct.{NameFits, NamesFit}
+use lib.Seq.{take-suc-set, append-snoc}
 use Rattle.sheet.specs.Layout.{Layout, plainLayout}
 use Rattle.sheet.specs.Sheet.{Front, bad, front, frontOf, past, placed, stepAt}
 use Rattle.sheet.specs.Structure.{faultOf, faultFrom, placesFrom, Walked}
@@ -115,26 +114,3 @@ walking-goes s n left at i starts c m w g =
       most = omega arith;
       whole = length-set starts i at ∙ w .whole;
     }
-
--- at each place that the walk keeps, the name lies in the sheet
-pub places-fit : (s : List ℕ) (n at i : ℕ) → i < length (placesFrom plainLayout s n at) → NameFits s (getD (placesFrom plainLayout s n at) i 0)
-unfolding placesFrom
-places-fit s zero at i h = absurd (omega arith)
-places-fit s (suc n) at i h = go (places-fit s n) (frontOf plainLayout (drop at s)) refl i h
-  where
-    go : ((at j : ℕ) → j < length (placesFrom plainLayout s n at) → NameFits s (getD (placesFrom plainLayout s n at) j 0))
-        → (t : Front) → frontOf plainLayout (drop at s) ≡ t → (i : ℕ)
-        → i < length {A = ℕ} (elim t as (λ x. List ℕ) [ bad k ↦ [] | front f ↦ at ∷ placesFrom plainLayout s n (past at f) ])
-        → NameFits s (getD {A = ℕ} (elim t as (λ x. List ℕ) [ bad k ↦ [] | front f ↦ at ∷ placesFrom plainLayout s n (past at f) ]) i 0)
-    go ih (bad k) p i l = absurd (omega arith)
-    go ih (front f) p zero l = let o : Sound s at = sound s at (ap faultOf p) in omega arith
-    go ih (front f) p (suc i) l = ih (past at f) i (omega arith)
-
-pub walked-fit : (s : List ℕ) (n number count : ℕ) (starts : List ℕ) → Walked s n number count starts → NamesFit s starts count
-walked-fit s n number count starts w i h =
-    let l : length (take count starts) ≡ count = length-take-le count starts (omega arith) in
-    let e : getD (take count starts) i 0 ≡ getD starts i 0 = getD-take count starts i 0 h in
-    let m : i < length (placesFrom plainLayout s n 7) = rw (← w .places) (omega arith) in
-    let f : NameFits s (getD (placesFrom plainLayout s n 7) i 0) = places-fit s n 7 i m in
-    let p : getD (placesFrom plainLayout s n 7) i 0 ≡ getD starts i 0 = ap (λ (l : List ℕ). getD l i 0) (sym (w .places)) ∙ e in
-    subst (NameFits s) p f

@@ -2,11 +2,11 @@
 ghost use mathlib.Core.Path.{_≡_};
 ghost use Prim.Native.Nat.{_+_, _<_, _≤_};
 ghost use lib.ListN.{length, getD, drop};
-ghost use Rattle.distinct.specs.Distinct.{nameAt, NameFits};
-ghost use Rattle.octets.specs.Bytes.{numberAt, same};
+ghost use Rattle.octets.specs.Bytes.{numberAt};
 ghost use Rattle.sheet.specs.Find.{findOf, handedBack, Inside};
+ghost use Rattle.sheet.specs.Index.{Blank, Indexed};
 ghost use Rattle.sheet.specs.Layout.{plainLayout};
-ghost use Rattle.sheet.specs.Sheet.{Accepted, frontOf, numberOf, sheetOf, stepAt};
+ghost use Rattle.sheet.specs.Sheet.{frontOf, numberOf, sheetOf, stepAt};
 ghost use Rattle.sheet.specs.Structure.{Walked, entryAt, faultOf, headFault};
 
 // One record: where its name stands, its kind byte and its two values.
@@ -39,6 +39,12 @@ pub enum Lookup {
 
 fn long(x: u8) -> usize
     ensures { λ r. ⌜ (r ≡ x) × (r < 256) ⌝ }
+{
+    x as usize
+}
+
+fn place(x: u16) -> usize
+    ensures { λ r. ⌜ r ≡ x ⌝ }
 {
     x as usize
 }
@@ -178,44 +184,6 @@ fn head_fault(s: &[u8]) -> u32
     if number(s, 3, 2) == 1 { 0 } else { 3 }
 }
 
-// Whether the record at a place has a name: its length byte is compared first.
-fn has_name(s: &[u8], at: usize, name: &[u8]) -> bool
-    requires { ⌜ NameFits (now s) at ⌝ }
-    ensures { λ r. ⌜ r ≡ same (nameAt (now (s .entry)) at) (now (name .entry)) ⌝ }
-{
-    let n = long(s[at]);
-    if n != name.len() {
-        return false;
-    }
-    let start = at + 1;
-    let mut i = 0;
-    while i < n {
-        if s[start + i] != name[i] {
-            return false;
-        }
-        i += 1;
-    }
-    true
-}
-
-// The record that has a name in a sheet that is known to be accepted.
-pub fn find(s: &[u8], name: &[u8]) -> Lookup
-    requires { ⌜ Accepted (now s) ⌝ }
-    ensures { λ r. ⌜ r ≡ findOf (now (s .entry)) (now (name .entry)) ⌝ }
-{
-    let mut left = number(s, 5, 2);
-    let mut at = 7;
-    while 0 < left {
-        let n = long(s[at]);
-        if has_name(s, at, name) {
-            return Lookup::Hit(entry_at(s, at, n));
-        }
-        at = at + 18 + n;
-        left -= 1;
-    }
-    Lookup::Miss(9)
-}
-
 // What a walk over the records finds: the refusal that ends it, 0 at the end of the sheet, and how many records come before.
 struct Tally {
     number: u32,
@@ -254,41 +222,73 @@ fn walk_records(s: &[u8], records: usize, starts: &mut [u16; 3449]) -> Tally
     }
 }
 
-// Room for the place of each record: at most 3,448 records fit into a sheet. The contract gives the length.
-fn no_starts() -> [u16; 3449]
-    ensures { λ r. ⌜ length r ≡ 3449 ⌝ }
-{
-    [0u16; 3449]
-}
-
-// The number of the first condition that refuses a sheet, or 0: structure first, then names.
-pub fn check(s: &[u8]) -> u32
+// The number of the first condition that refuses a sheet, or 0: structure first, then names. Where it is 0, the lent arrays become the
+// sheet's index.
+pub fn index(
+    s: &[u8],
+    starts: &mut [u16; 3449],
+    heads: &mut [u16; 4096],
+    next: &mut [u16; 3449],
+) -> u32
+    requires { ⌜ Blank (now starts) (now heads) (now next) ⌝ }
     ensures { λ r. ⌜ r ≡ numberOf (sheetOf (now (s .entry))) ⌝ }
+    ensures { λ r. ⌜ (r ≡ 0 → Indexed (now (s .entry)) (now (starts .exit)) (now (heads .exit)) (now (next .exit))) ⌝ }
 {
     let head = head_fault(s);
     if head != 0 {
         return head;
     }
     let records = number(s, 5, 2) as usize;
-    let mut starts = no_starts();
-    let walked = walk_records(s, records, &mut starts);
+    let walked = walk_records(s, records, starts);
     let number = walked.number;
     let count = walked.count;
-    if distinct::repeats(s, &starts, count) {
+    if distinct::repeats(s, starts, count, heads, next) {
         return 16;
     }
     number
+}
+
+// The number of the first condition that refuses a sheet, or 0.
+pub fn check(s: &[u8]) -> u32
+    ensures { λ r. ⌜ r ≡ numberOf (sheetOf (now (s .entry))) ⌝ }
+{
+    let mut starts = distinct::no_links();
+    let mut heads = distinct::no_heads();
+    let mut next = distinct::no_links();
+    index(s, &mut starts, &mut heads, &mut next)
+}
+
+// The record that has a name in a sheet that is indexed.
+pub fn find(
+    s: &[u8],
+    starts: &[u16; 3449],
+    heads: &[u16; 4096],
+    next: &[u16; 3449],
+    name: &[u8],
+) -> Lookup
+    requires { ⌜ Indexed (now s) (now starts) (now heads) (now next) ⌝ }
+    ensures { λ r. ⌜ r ≡ findOf (now (s .entry)) (now (name .entry)) ⌝ }
+{
+    let k = distinct::place_of(s, starts, heads, next, name);
+    if k == 0 {
+        return Lookup::Miss(9);
+    }
+    let at = place(starts[k - 1]);
+    Lookup::Hit(entry_at(s, at, long(s[at])))
 }
 
 // The record that has a name in any sheet, which is checked first.
 pub fn search(s: &[u8], name: &[u8]) -> Lookup
     ensures { λ r. ⌜ r ≡ findOf (now (s .entry)) (now (name .entry)) ⌝ }
 {
-    let number = check(s);
+    let mut starts = distinct::no_links();
+    let mut heads = distinct::no_heads();
+    let mut next = distinct::no_links();
+    let number = index(s, &mut starts, &mut heads, &mut next);
     if number != 0 {
         return Lookup::Miss(number);
     }
-    find(s, name)
+    find(s, &starts, &heads, &next, name)
 }
 
 // The found name's own bytes in the sheet, or none.

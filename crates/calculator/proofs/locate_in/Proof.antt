@@ -36,13 +36,13 @@ returns : tie.Need-returns
 returns c =
     let a = c .before .before .before .before in
     let s = a .before .before .before in
-    name-refused (s .args .sheet .now) (s .args .spelled .now) _ (s .pre) (read-refused _ _ _ (a .read .ensures) (c .before .outcome .given .1))
+    name-refused (s .args .sheet .now) (s .args .spelled .now) _ (s .pre .accepted) (read-refused _ _ _ (a .read .ensures) (c .before .outcome .given .1))
 
 returns-2 : tie.Need-returns-2
 returns-2 c =
     let k = c .before .before in
     let s = k .before .before .before .before .before .before .before in
-    c .find .ensures ∙ name-read (s .args .sheet .now) (s .args .spelled .now) _ (s .pre) (whole k .same)
+    c .find .ensures ∙ name-read (s .args .sheet .now) (s .args .spelled .now) _ (s .pre .accepted) (whole k .same)
 
 pub locate-in-spec : {M : Type 1} → statement M
 locate-in-spec =

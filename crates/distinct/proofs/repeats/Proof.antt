@@ -1,23 +1,26 @@
--- `distinct::repeats` meets its contract: the loop keeps the table of chains of the records passed. Assumes nothing.
-use mathlib.Core.Path.{_≡_, sym}
-use Prim.Native.Nat.{_≤_, _-_}
+-- `distinct::repeats` meets its contract: the loop keeps the table of the records passed, whose names differ. Assumes nothing.
+use mathlib.Core.Path.{_≡_, sym, _∙_}
+use Prim.Native.Nat.{ℕ, _≤_, _-_}
+use Rattle.distinct.specs.Chain.{nameOf, Table}
+use Rattle.distinct.proofs.Pairs.{Apart, apart-repeats, found-repeats}
+use Rattle.distinct.proofs.Walk.{walked-missed, walked-met}
+use Rattle.distinct.proofs.Table.{table-start, table-next, apart-next}
 use native.Mathlib.Omega.{arith}
 use borrow.Author.Needs.{needs}
-use Rattle.distinct.specs.Distinct.{nameAt}
-use Rattle.distinct.proofs.Pairs.{apart-repeats, found-repeats}
-use Rattle.distinct.proofs.Walk.{walked-missed, walked-met}
-use Rattle.distinct.proofs.Table.{Table, table-start, table-next}
 use Rattle.distinct.proofs.repeats.Statement.{statement}
 use Rattle.distinct.proofs.repeats.Tie as tie
 
 abbrev Inv-loop : tie.InvT-loop
-Inv-loop s starts n heads₀ next₀ i₀ heads next i = (i ≤ n) × Table s starts heads next i
+Inv-loop s starts n heads₀ next₀ i₀ heads next i = (i ≤ n) × Table s starts heads next i × Apart s starts i
 
 abbrev μ-loop : tie.MeasureT-loop
 μ-loop s starts n heads₀ next₀ i₀ heads next i = n - i
 
 loop-holds : tie.Need-loop-holds Inv-loop μ-loop
-loop-holds c = (omega arith, table-start (c .before .args .s .now) (c .before .args .starts .now))
+loop-holds c =
+    let g = c .before .args in
+    let p = c .before .pre in
+    (omega arith, table-start (g .s .now) (g .starts .now) (p .3) (p .4), λ a b l m. absurd (omega arith))
 
 mul-wide16 : tie.Need-mul-wide16 Inv-loop μ-loop
 mul-wide16 c = search needs
@@ -28,45 +31,46 @@ element-copy-out-wide16 c = search needs
 wide16-requires : tie.Need-wide16-requires Inv-loop μ-loop
 wide16-requires c κs = search needs
 
-hash-of-requires : tie.Need-hash-of-requires Inv-loop μ-loop
-hash-of-requires c κs =
+name-at-requires : tie.Need-name-at-requires Inv-loop μ-loop
+name-at-requires c κs =
     let l = c .before .before .before in
     rw (c .wide16 .ensures .0) (l .before .before .pre .1 (l .loop .i) (omega arith))
+
+hash-of-requires : tie.Need-hash-of-requires Inv-loop μ-loop
+hash-of-requires c κs = search needs
 
 mul-first : tie.Need-mul-first Inv-loop μ-loop
 mul-first c = search needs
 
-array-read-first : tie.Need-array-read-first Inv-loop μ-loop
-array-read-first c = search needs
+element-copy-out-first : tie.Need-element-copy-out-first Inv-loop μ-loop
+element-copy-out-first c = search needs
 
 in-chain-requires : tie.Need-in-chain-requires Inv-loop μ-loop
 in-chain-requires c κs =
-    let l = c .before .before .before .before .before in
-    let fit = l .before .before .pre .1 in
-    let low = l .loop .inv .1 .low (c .before .hash-of .result) in (
-      omega (arith, low),
-      λ j k. fit j (omega (arith, low)),
-      rw (c .before .before .wide16 .ensures .0) (fit (l .loop .i) (omega arith)),
-      l .loop .inv .1 .falling,
-    )
+    let l = c .before .before .before .before .before .before .before in
+    let t = l .loop .inv .1 in
+    let low = t .low (c .before .before .hash-of .result) in
+    (omega (arith, low, t .most), λ j k. t .fit j (omega (arith, low)), t .falling)
 
 returns : tie.Need-returns Inv-loop μ-loop
 returns c =
-    let h = c .before .before .before in
-    let l = h .before .before .before .before in
+    let a = c .before .before .before .before .before in
+    let l = a .before .before .before .before in
     let g = l .before .before .args in
-    let w = walked-met (g .s .now) (g .starts .now) (l .loop .next) (nameAt (g .s .now) (h .before .wide16 .result)) (c .before .in-chain .ensures) (c .if1 .taken) in
-    sym (found-repeats (g .s .now) (g .starts .now) (g .n) (w .0) (l .loop .i)
-    (omega arith)
-    (omega (arith, w .1, l .loop .inv .1 .low (h .hash-of .result)))
-    (omega arith)
-    (cc (w .2)))
+    let w = walked-met (g .s .now) (g .starts .now) (l .loop .next) (a .name-at .result .now) (c .before .in-chain .ensures) (c .if1 .taken) in (
+      sym (found-repeats (g .s .now) (g .starts .now) (g .n) (w .0) (l .loop .i)
+          (omega arith)
+          (omega (arith, w .1, l .loop .inv .1 .low (c .before .before .before .before .hash-of .result)))
+          (omega arith)
+          (cc (w .2, a .name-at .ensures, a .before .wide16 .ensures .0))),
+      λ e. let z : _≡_ {A = ℕ} 0 1 = cc in absurd (omega arith),
+    )
 
 mul-next : tie.Need-mul-next Inv-loop μ-loop
 mul-next c = search needs
 
-array-write-next : tie.Need-array-write-next Inv-loop μ-loop
-array-write-next c = search needs
+element-write-next : tie.Need-element-write-next Inv-loop μ-loop
+element-write-next c = search needs
 
 cast-heads : tie.Need-cast-heads Inv-loop μ-loop
 cast-heads c = search needs
@@ -77,8 +81,8 @@ add-heads c = search needs
 mul-heads : tie.Need-mul-heads Inv-loop μ-loop
 mul-heads c = search needs
 
-array-write-heads : tie.Need-array-write-heads Inv-loop μ-loop
-array-write-heads c = search needs
+element-write-heads : tie.Need-element-write-heads Inv-loop μ-loop
+element-write-heads c = search needs
 
 add-i : tie.Need-add-i Inv-loop μ-loop
 add-i c = search needs
@@ -88,15 +92,18 @@ loop-less c = search needs
 
 loop-again : tie.Need-loop-again Inv-loop μ-loop
 loop-again c =
-    let h = c .before .before .before in
-    let l = h .before .before .before .before in
+    let h = c .before .before .before .before in
+    let a = h .before in
+    let l = a .before .before .before .before in
     let g = l .before .before .args in
-    let p = h .before .wide16 .ensures .0 in (
+    let t = l .loop .inv .1 in
+    let e : a .name-at .result .now ≡ nameOf (g .s .now) (g .starts .now) (l .loop .i) = a .name-at .ensures ∙ rw (a .before .wide16 .ensures .0) in
+    let p = rw e at (h .hash-of .ensures .0) in
+    let m = rw e at (walked-missed (g .s .now) (g .starts .now) (l .loop .next) (a .name-at .result .now) (c .before .in-chain .ensures) (c .if1 .left)) in (
       omega arith,
-      table-next (g .s .now) (g .starts .now) (l .loop .heads) (l .loop .next) (l .loop .i) (h .hash-of .result) (l .loop .inv .1) (omega arith)
-          (h .hash-of .ensures .1)
-          (rw p at (h .hash-of .ensures .0))
-          (rw p at (walked-missed (g .s .now) (g .starts .now) (l .loop .next) (nameAt (g .s .now) (h .before .wide16 .result)) (c .before .in-chain .ensures) (c .if1 .left))),
+      table-next (g .s .now) (g .starts .now) (l .loop .heads) (l .loop .next) (l .loop .i) (h .hash-of .result) t (omega arith) (h .hash-of .ensures .1) p m
+          (λ j k. l .before .before .pre .1 j (omega arith)),
+      apart-next (g .s .now) (g .starts .now) (l .loop .heads) (l .loop .next) (l .loop .i) (h .hash-of .result) t (omega arith) (h .hash-of .ensures .1) p m (l .loop .inv .2),
     )
 
 returns-2 : tie.Need-returns-2 Inv-loop μ-loop
@@ -104,7 +111,7 @@ returns-2 c =
     let l = c .before in
     let g = l .before .before .args in
     let e : g .n ≡ l .loop .i = omega arith in
-    sym (apart-repeats (g .s .now) (g .starts .now) (g .n) (omega arith) (rw e (l .loop .inv .1 .apart)))
+    (sym (apart-repeats (g .s .now) (g .starts .now) (g .n) (omega arith) (rw e (l .loop .inv .2))), λ z. rw e (l .loop .inv .1))
 
 pub repeats-spec : {M : Type 1} → statement M
 repeats-spec =
@@ -116,17 +123,18 @@ repeats-spec =
     mul-wide16
     element-copy-out-wide16
     wide16-requires
+    name-at-requires
     hash-of-requires
     mul-first
-    array-read-first
+    element-copy-out-first
     in-chain-requires
     returns
     mul-next
-    array-write-next
+    element-write-next
     cast-heads
     add-heads
     mul-heads
-    array-write-heads
+    element-write-heads
     add-i
     loop-less
     loop-again

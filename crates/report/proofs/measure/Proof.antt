@@ -4,16 +4,15 @@ use Prim.Native.Nat.{_+_, _-_}
 use native.Mathlib.Omega.{arith}
 use lib.ListN.{length}
 use borrow.Author.Needs.{needs}
-use Rattle.line.specs.declared.Line.{Line}
 use Rattle.report.proofs.Output.{Along, along-none, along-next, along-all, bound}
 use Rattle.report.proofs.measure.Statement.{statement}
 use Rattle.report.proofs.measure.Tie as tie
 
 abbrev Inv-loop : tie.InvT-loop
-Inv-loop sheet list start₀ at₀ start at = Along sheet list start at
+Inv-loop sheet starts heads next list start₀ at₀ start at = Along sheet list start at
 
 abbrev μ-loop : tie.MeasureT-loop
-μ-loop sheet list start₀ at₀ start at = length list + 1 - start
+μ-loop sheet starts heads next list start₀ at₀ start at = length list + 1 - start
 
 loop-holds : tie.Need-loop-holds Inv-loop μ-loop
 loop-holds c = along-none _ _
@@ -40,7 +39,7 @@ add-at c =
     let s = c .before .before .before .before .before .before .before .before in
     let p = c .before .line-in .ensures in
     let i = f .inside in
-    omega (arith, s .pre .1, bound (s .args .sheet .now) (s .args .list .now) (l .start) (l .at) (l .inv) _ _ f (ap (λ (x : Line). x .len) (p .0)) (p .1))
+    omega (arith, s .pre .1, bound (s .args .sheet .now) (s .args .list .now) (l .start) (l .at) (l .inv) _ _ f (p .0) (p .1))
 
 add-start : tie.Need-add-start Inv-loop μ-loop
 add-start c = search needs
@@ -55,7 +54,7 @@ loop-again : tie.Need-loop-again Inv-loop μ-loop
 loop-again c =
     let l = c .before .before .before .before .before .loop in
     let p = c .before .line-in .ensures in
-    along-next _ _ (l .start) (l .at) (l .inv) _ _ (c .before .before .before .line-end .ensures) (ap (λ (x : Line). x .len) (p .0)) (p .1)
+    along-next _ _ (l .start) (l .at) (l .inv) _ _ (c .before .before .before .line-end .ensures) (p .0) (p .1)
 
 returns : tie.Need-returns Inv-loop μ-loop
 returns c =

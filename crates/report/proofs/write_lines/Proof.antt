@@ -1,11 +1,9 @@
 -- `report::write_lines` meets its contract. Assumes nothing.
 use mathlib.Core.List.{List}
-use mathlib.Core.Path.{ap}
 use Prim.Native.Nat.{ℕ, _+_, _-_}
 use native.Mathlib.Omega.{arith}
 use lib.ListN.{length}
 use borrow.Author.Needs.{needs}
-use Rattle.line.specs.declared.Line.{Line}
 use Rattle.line.proofs.Front.{line-front, line-inside}
 use Rattle.octets.specs.Bytes.{part}
 use Rattle.report.proofs.Output.{one, fits, Written, written-none, written-next, written-all}
@@ -13,10 +11,10 @@ use Rattle.report.proofs.write_lines.Statement.{statement}
 use Rattle.report.proofs.write_lines.Tie as tie
 
 abbrev Inv-loop : tie.InvT-loop
-Inv-loop sheet list out₀ start₀ at₀ out start at = Written sheet list out₀ out start at
+Inv-loop sheet starts heads next list out₀ start₀ at₀ out start at = Written sheet list out₀ out start at
 
 abbrev μ-loop : tie.MeasureT-loop
-μ-loop sheet list out₀ start₀ at₀ out start at = length list + 1 - start
+μ-loop sheet starts heads next list out₀ start₀ at₀ out start at = length list + 1 - start
 
 loop-holds : tie.Need-loop-holds Inv-loop μ-loop
 loop-holds c = written-none _ _ _
@@ -44,7 +42,7 @@ append-requires c κs =
     let w = l .inv in
     let p = c .before .line-in .ensures in
     let t : List ℕ = one (s .args .sheet .now) (part (s .args .list .now) (l .start) (e .result - l .start)) in
-    let k = fits _ _ (l .start) (l .at) (w .along) _ _ (e .ensures) (ap (λ (x : Line). x .len) (p .0)) (p .1) _ (s .pre .1) in
+    let k = fits _ _ (l .start) (l .at) (w .along) _ _ (e .ensures) (p .0) (p .1) _ (s .pre .1) in
     (line-inside t _ (p .0), omega (arith, k, w .same))
 
 add-start : tie.Need-add-start Inv-loop μ-loop
@@ -65,9 +63,8 @@ loop-again c =
     let p = c .before .before .before .before .line-in .ensures in
     let a = c .before .before .append .ensures in
     let t : List ℕ = one (s .args .sheet .now) (part (s .args .list .now) (l .start) (e .result - l .start)) in
-    let n = ap (λ (x : Line). x .len) (p .0) in
-    let k = fits _ _ (l .start) (l .at) (w .along) _ _ (e .ensures) n (p .1) _ (s .pre .1) in
-    rw (a .0) (written-next _ _ _ _ (l .start) (l .at) w _ _ (e .ensures) n (p .1) k _ (rw (line-front t _ (p .0)) at (a .1)))
+    let k = fits _ _ (l .start) (l .at) (w .along) _ _ (e .ensures) (p .0) (p .1) _ (s .pre .1) in
+    rw (a .0) (written-next _ _ _ _ (l .start) (l .at) w _ _ (e .ensures) (p .0) (p .1) k _ (rw (line-front t _ (p .0)) at (a .1)))
 
 same-length : tie.Need-same-length Inv-loop μ-loop
 same-length c = search needs

@@ -1,24 +1,41 @@
--- `sheet::search` checks the sheet, then finds the name.
-use denote.Ref.{now}
+-- `sheet::search` indexes the sheet, then finds the name.
 use Rattle.sheet.specs.Sheet.{sheetOf}
 use Rattle.sheet.proofs.Searching.{refused-first}
 use borrow.Author.Needs.{needs}
 use Rattle.sheet.proofs.search.Statement.{statement}
 use Rattle.sheet.proofs.search.Tie as tie
 
-check-requires : tie.Need-check-requires
-check-requires c κs = search needs
+no-links-requires : tie.Need-no-links-requires
+no-links-requires c κs = search needs
+
+no-heads-requires : tie.Need-no-heads-requires
+no-heads-requires c κs = search needs
+
+no-links-requires-2 : tie.Need-no-links-requires-2
+no-links-requires-2 c κs = search needs
+
+index-requires : tie.Need-index-requires
+index-requires c κs = search needs
 
 returns : tie.Need-returns
 returns c =
-    let start = c .before .before .before .before .args in
-    refused-first (sheetOf (now (start .s))) (now (start .s)) (now (start .name)) (c .before .check .result) (c .before .check .ensures) (c .if1 .taken)
+    let g = c .before .before .before .before .before .before .before .before .before .before .args in
+    refused-first (sheetOf (g .s .now)) (g .s .now) (g .name .now) (c .before .index .result) (c .before .index .ensures .0) (c .if1 .taken)
 
 find-requires : tie.Need-find-requires
-find-requires c κs = search needs
+find-requires c κs = c .before .before .before .before .index .ensures .1 (c .before .before .before .if1 .left)
 
 returns-2 : tie.Need-returns-2
 returns-2 c = search needs
 
 pub search-spec : {M : Type 1} → statement M
-search-spec = tie.close (tie.spec check-requires returns find-requires returns-2)
+search-spec =
+    tie.close
+    (tie.spec
+    no-links-requires
+    no-heads-requires
+    no-links-requires-2
+    index-requires
+    returns
+    find-requires
+    returns-2)

@@ -1,10 +1,10 @@
--- Two lists of bytes compared one byte after another.
+-- Two lists of bytes compared one byte after another. Assumes nothing.
 use mathlib.Core.Bool.{Bool, true, false, _&&_, and-false}
 use mathlib.Core.List.{List, [], _∷_}
 use mathlib.Core.Path.{_≡_, refl, ap}
 use Prim.Native.Nat.{ℕ, suc, _+_, _≤_, _<_}
 use native.Mathlib.Numerals.{add-one}
-use borrow.Author.Tests.{eq-eqb, ne-eqb}
+use borrow.Author.Tests.{eqb-true, eq-eqb, ne-eqb}
 use lib.Dec.{eqb}
 use lib.ListN.{length, getD, drop, drop-of-length-le}
 use lib.Seq.{drop-cons}
@@ -19,6 +19,18 @@ lengths-differ (x ∷ xs) (y ∷ ys) h = rw (lengths-differ xs ys (λ e. h (ap s
 pub same-refl : (xs : List ℕ) → same xs xs ≡ true
 same-refl [] = refl
 same-refl (x ∷ xs) = rw (eq-eqb x x refl) (same-refl xs)
+
+both-true : (a b : Bool) → a && b ≡ true → (a ≡ true) × (b ≡ true)
+both-true true b h = (refl, h)
+both-true false b h = (cc, cc)
+
+pub same-equal : (xs ys : List ℕ) → same xs ys ≡ true → xs ≡ ys
+same-equal [] [] h = refl
+same-equal [] (y ∷ ys) h = cc
+same-equal (x ∷ xs) [] h = cc
+same-equal (x ∷ xs) (y ∷ ys) h =
+    let b : (eqb x y ≡ true) × (same xs ys ≡ true) = both-true (eqb x y) (same xs ys) h in
+    cc (eqb-true x y (b .0), same-equal xs ys (b .1))
 
 -- what is left of both after i bytes
 abbrev pub rest-same : List ℕ → List ℕ → ℕ → Bool

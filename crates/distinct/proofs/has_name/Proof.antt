@@ -1,16 +1,17 @@
--- `sheet::has_name` compares lengths, then bytes. The invariant: the names are the same where what is left of them is.
+-- `distinct::has_name` compares lengths, then bytes. The invariant: the names are the same where what is left of them is.
+-- Assumes nothing.
 use mathlib.Core.Path.{_≡_, refl, sym, _∙_}
 use Prim.Native.Nat.{_+_, _≤_, _-_}
 use denote.Ref.{now}
 use lib.ListN.{length, getD}
 use native.Mathlib.Omega.{arith}
 use Rattle.octets.specs.Bytes.{same}
 use Rattle.distinct.specs.Distinct.{nameAt}
-use Rattle.sheet.proofs.Names.{name-length, name-byte}
-use Rattle.sheet.proofs.Same.{rest-same, lengths-differ, equal-byte, other-byte, ended}
+use Rattle.distinct.proofs.Names.{name-length, name-byte}
+use Rattle.distinct.proofs.Same.{rest-same, lengths-differ, equal-byte, other-byte, ended}
 use borrow.Author.Needs.{needs}
-use Rattle.sheet.proofs.has_name.Statement.{statement}
-use Rattle.sheet.proofs.has_name.Tie as tie
+use Rattle.distinct.proofs.has_name.Statement.{statement}
+use Rattle.distinct.proofs.has_name.Tie as tie
 
 abbrev Inv-loop : tie.InvT-loop
 Inv-loop s at name n start i₀ i = (i ≤ n) × (same (nameAt s at) name ≡ rest-same (nameAt s at) name i)
@@ -18,11 +19,11 @@ Inv-loop s at name n start i₀ i = (i ≤ n) × (same (nameAt s at) name ≡ re
 abbrev μ-loop : tie.MeasureT-loop
 μ-loop s at name n start i₀ i = n - i
 
-shared-slice-read-long : tie.Need-shared-slice-read-long Inv-loop μ-loop
-shared-slice-read-long c = search needs
+shared-slice-read-wide8 : tie.Need-shared-slice-read-wide8 Inv-loop μ-loop
+shared-slice-read-wide8 c = search needs
 
-long-requires : tie.Need-long-requires Inv-loop μ-loop
-long-requires c κs = search needs
+wide8-requires : tie.Need-wide8-requires Inv-loop μ-loop
+wide8-requires c κs = search needs
 
 returns : tie.Need-returns Inv-loop μ-loop
 returns c =
@@ -30,7 +31,7 @@ returns c =
     let s = now (start .s) in
     let name = now (start .name) in
     let l : length (nameAt s (start .at)) ≡ getD s (start .at) 0 = name-length s (start .at) (c .before .before .before .before .before .pre) in
-    sym (lengths-differ (nameAt s (start .at)) name (λ e. c .if1 .taken (c .before .long .ensures .0 ∙ sym l ∙ e)))
+    sym (lengths-differ (nameAt s (start .at)) name (λ e. c .if1 .taken (c .before .wide8 .ensures .0 ∙ sym l ∙ e)))
 
 add-start : tie.Need-add-start Inv-loop μ-loop
 add-start c = search needs
@@ -53,7 +54,7 @@ returns-2 c =
     let s = now (start .s) in
     let name = now (start .name) in
     let i = c .before .before .before .before .loop .i in
-    let n : c .before .before .before .before .before .before .long .result ≡ getD s (start .at) 0 = c .before .before .before .before .before .before .long .ensures .0 in
+    let n : c .before .before .before .before .before .before .wide8 .result ≡ getD s (start .at) 0 = c .before .before .before .before .before .before .wide8 .ensures .0 in
     let l : length (nameAt s (start .at)) ≡ getD s (start .at) 0 = name-length s (start .at) (c .before .before .before .before .before .before .before .before .before .before .pre) in
     let b : getD (nameAt s (start .at)) i 0 ≡ getD s (start .at + 1 + i) 0 = name-byte s (start .at) i (omega arith) in
     sym (c .before .before .before .before .loop .inv .1 ∙ other-byte (nameAt s (start .at)) name i (omega arith) (omega arith) (λ e. c .if2 .taken (sym b ∙ e)))
@@ -70,7 +71,7 @@ loop-again c =
     let s = now (start .s) in
     let name = now (start .name) in
     let i = c .before .before .before .before .loop .i in
-    let n : c .before .before .before .before .before .before .long .result ≡ getD s (start .at) 0 = c .before .before .before .before .before .before .long .ensures .0 in
+    let n : c .before .before .before .before .before .before .wide8 .result ≡ getD s (start .at) 0 = c .before .before .before .before .before .before .wide8 .ensures .0 in
     let l : length (nameAt s (start .at)) ≡ getD s (start .at) 0 = name-length s (start .at) (c .before .before .before .before .before .before .before .before .before .before .pre) in
     let b : getD (nameAt s (start .at)) i 0 ≡ getD s (start .at + 1 + i) 0 = name-byte s (start .at) i (omega arith) in
     (omega arith, c .before .before .before .before .loop .inv .1 ∙ equal-byte (nameAt s (start .at)) name i (omega arith) (omega arith) (b ∙ c .if2 .left))
@@ -81,7 +82,7 @@ returns-3 c =
     let s = now (start .s) in
     let name = now (start .name) in
     let i = c .before .loop .i in
-    let n : c .before .before .before .long .result ≡ getD s (start .at) 0 = c .before .before .before .long .ensures .0 in
+    let n : c .before .before .before .wide8 .result ≡ getD s (start .at) 0 = c .before .before .before .wide8 .ensures .0 in
     let l : length (nameAt s (start .at)) ≡ getD s (start .at) 0 = name-length s (start .at) (c .before .before .before .before .before .before .before .pre) in
     sym (c .before .loop .inv .1 ∙ ended (nameAt s (start .at)) name i (omega arith) (omega arith))
 
@@ -91,8 +92,8 @@ has-name-spec =
     (tie.spec
     Inv-loop
     μ-loop
-    shared-slice-read-long
-    long-requires
+    shared-slice-read-wide8
+    wide8-requires
     returns
     add-start
     loop-holds
