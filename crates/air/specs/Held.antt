@@ -34,5 +34,5 @@ shows c l e s v = record { number = 0; letter = c; logs = some l; edges = e; end
 
 abbrev pub held : Answer → Held
 held (Refused n) = refuses n
-held (Judged n c l e) = judges n c l e
+held (Judged c n l e) = judges n c l e
 held (Shows c l e s v) = shows c l e s v

@@ -84,8 +84,8 @@ fn say_answer(answer: Answer) {
             say(b" 0 0 0 0 0 0\n");
         }
         Answer::Judged {
-            number,
             letter,
+            number,
             logs,
             edges,
         } => {

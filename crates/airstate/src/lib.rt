@@ -187,8 +187,8 @@ fn flatten(a: Answer) -> CAnswer
             }
         }
         Answer::Judged {
-            number,
             letter,
+            number,
             logs,
             edges,
         } => assemble(number, letter, logs, flat_edges(edges, 0, 0), 0, 0),

@@ -40,8 +40,8 @@ fn beyond(logs: Logs) -> Answer
     ensures { λ r. ⌜ held r ≡ judges 12 letterS logs Unfitted ⌝ }
 {
     Answer::Judged {
-        number: 12,
         letter: b'S',
+        number: 12,
         logs,
         edges: Edges::Unfitted,
     }

@@ -109,8 +109,8 @@ pub fn build(name: &[u8], answer: Answer) -> Line
             Line { bytes, len }
         }
         Answer::Judged {
-            number,
             letter: _,
+            number,
             logs: _,
             edges: _,
         } => {

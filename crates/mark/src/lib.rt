@@ -36,8 +36,8 @@ pub fn mark_of(a: Answer) -> Mark
     match a {
         Answer::Refused(number) => Mark::Blank(number),
         Answer::Judged {
-            number,
             letter: _,
+            number,
             logs: _,
             edges: _,
         } => Mark::Blank(number),

@@ -37,8 +37,8 @@ fn out_of_bounds(logs: Logs, fit: i64, weight: i64) -> Answer
     ensures { λ r. ⌜ held r ≡ judges 13 letterT logs (oneEdge fit weight) ⌝ }
 {
     Answer::Judged {
-        number: 13,
         letter: b'T',
+        number: 13,
         logs,
         edges: Edges::One(Edge { fit, weight }),
     }
@@ -82,8 +82,8 @@ fn temperature_from(p: u64, d: u64, logs: Logs) -> Answer
     let z = logs.z;
     match tgas::region_of(y, z) {
         Region::Refused => Answer::Judged {
-            number: 12,
             letter: b'T',
+            number: 12,
             logs,
             edges: Edges::Unfitted,
         },

@@ -76,8 +76,8 @@ returns-2 c =
     let k = c .before .before .before in
     let g = k .a2 .given .0 in
     c .assemble .ensures
-    ∙ ap (λ (e : CEdges). assembled (g .0) (g .1 .0) (g .1 .1 .0) e 0 (pos 0)) (c .before .flat-edges .ensures)
-    ∙ plus-zero (g .1 .1 .0) (g .1 .1 .1 .0) (g .0) (g .1 .0)
+    ∙ ap (λ (e : CEdges). assembled (g .1 .0) (g .0) (g .1 .1 .0) e 0 (pos 0)) (c .before .flat-edges .ensures)
+    ∙ plus-zero (g .1 .1 .0) (g .1 .1 .1 .0) (g .1 .0) (g .0)
     ∙ sym (ap (λ (x : Answer). flat (held x)) (k .a2 .given .1))
 
 returns-3 : tie.Need-returns-3
