@@ -37,6 +37,14 @@ fn mul_shift(a: i64, b: i64, k: u32, m: i64) -> i64
     h * b + ((l * b) >> k)
 }
 
+// a * b / (m * n) for an m that is 2^k: by m with shifts, then by n.
+fn mul_short(a: i64, b: i64, k: u32, m: i64, n: i64) -> i64
+    requires { ⌜ (k < 63) × (m ≡ pos (2 ^ k)) × Splits a b m × Divides (shrZ (a *ℤ b) (natAbs m)) n ⌝ }
+    ensures { λ r. ⌜ r ≡ shrZ (a *ℤ b) (natAbs m * natAbs n) ⌝ }
+{
+    floor_div(mul_shift(a, b, k, m), n)
+}
+
 // a * b / 1,000,000. A factor a below 2^43, as nearly all are, takes one quotient: by 64 with shifts, then by 15,625.
 pub fn mul(a: i64, b: i64) -> i64
     requires { ⌜ (In 57 a) × (In 25 b) ⌝ }
@@ -45,7 +53,7 @@ pub fn mul(a: i64, b: i64) -> i64
     if a < -8796093022207 || 8796093022207 < a {
         return mul_div(a, b, 1000000);
     }
-    floor_div(mul_shift(a, b, 6, 64), 15625)
+    mul_short(a, b, 6, 64, 15625)
 }
 
 // a + bY.
@@ -109,7 +117,7 @@ pub fn scaled(w: i64, b: i64) -> i64
     if b < -274877906943 || 274877906943 < b {
         return scaled_wide(w, b);
     }
-    floor_div(mul_shift(b, w, 10, 1024), 9765625)
+    mul_short(b, w, 10, 1024, 9765625)
 }
 
 // G where there is a second bicubic, of the two bicubics' values and the weight.

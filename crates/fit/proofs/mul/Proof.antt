@@ -2,12 +2,8 @@
 use mathlib.Core.Path.{_≡_, refl, _∙_}
 use Prim.Native.Nat.{_≤_}
 use lib.Dec.{lit<}
-use lib.IntN.{natAbs, _*ℤ_}
-use lib.Signed.{shrZ}
-use mir.Syntax.{w64}
-use mir.Val.{toZ, ofZ}
+use lib.IntN.{natAbs}
 use Rattle.fit.specs.Fit.{mul}
-use Rattle.fit.proofs.Floors.{twice}
 use Rattle.fit.proofs.Machine.{back, back-ok, tested}
 use Rattle.fit.proofs.Ranges.{mul-splits, short-splits, short-divides}
 use Rattle.fit.proofs.mul.Statement.{statement}
@@ -30,27 +26,17 @@ returns c =
     let s = c .before .before in
     back-ok (c .mul-div .result) (c .mul-div .ok) ∙ (rw (back (s .fits .a), back (s .fits .b)) at (c .mul-div .ensures))
 
-mul-shift-requires : tie.Need-mul-shift-requires
-mul-shift-requires c κs =
+mul-short-requires : tie.Need-mul-short-requires
+mul-short-requires c κs =
     let s = c .before .before in
-    (lit< tt, refl, rw (back (s .fits .a), back (s .fits .b)) (short-splits (short c) (s .pre .1)))
-
--- the quotient by 64
-over : (c : tie.After-mul-shift) → let s = c .before .before .before in toZ w64 (ofZ w64 (c .mul-shift .result)) ≡ shrZ (s .args .a *ℤ s .args .b) 64
-over c =
-    let s = c .before .before .before in
-    back-ok (c .mul-shift .result) (c .mul-shift .ok) ∙ (rw (back (s .fits .a), back (s .fits .b)) at (c .mul-shift .ensures))
-
-floor-div-requires : tie.Need-floor-div-requires
-floor-div-requires c κs = let s = c .before .before .before in rw (over c) (short-divides (s .args .a) (s .args .b) (short (c .before)) (s .pre .1))
+    rw (back (s .fits .a), back (s .fits .b))
+    (lit< tt, refl, short-splits (short c) (s .pre .1), short-divides (s .args .a) (s .args .b) (short c) (s .pre .1))
 
 returns-2 : tie.Need-returns-2
 unfolding mul
 returns-2 c =
-    let s = c .before .before .before .before in
-    back-ok (c .floor-div .result) (c .floor-div .ok)
-    ∙ (rw (over (c .before)) at (c .floor-div .ensures))
-    ∙ twice (s .args .a *ℤ s .args .b) 64 15625
+    let s = c .before .before .before in
+    back-ok (c .mul-short .result) (c .mul-short .ok) ∙ (rw (back (s .fits .a), back (s .fits .b)) at (c .mul-short .ensures))
 
 pub mul-spec : {M : Type 1} → statement M
-mul-spec = tie.close (tie.spec mul-div-requires returns mul-shift-requires floor-div-requires returns-2)
+mul-spec = tie.close (tie.spec mul-div-requires returns mul-short-requires returns-2)
