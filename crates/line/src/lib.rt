@@ -130,10 +130,10 @@ pub fn build(name: &[u8], answer: Answer) -> Line
     }
 }
 
-// The line for a spelling and its answer. It is at most 66 bytes longer than the spelling, or than ?.
+// The line for a spelling and its answer.
 pub fn line_of(spelled: &[u8], answer: Answer) -> Line
     ensures { λ r. ⌜ r ≡ lineHeld (line (now (spelled .entry)) (held answer)) ⌝ }
-    ensures { λ r. ⌜ r .len ≤ length (now (spelled .entry)) + 67 ⌝ }
+    ensures { λ r. ⌜ r .len ≤ 192 ⌝ }
 {
     let name = show(spelled);
     let bytes = name.bytes;

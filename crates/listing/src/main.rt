@@ -4,7 +4,9 @@ use libc::STDOUT_FILENO;
 use octets::Outcome;
 ghost use mathlib.Core.Path.{_≡_};
 ghost use lib.ListN.{length};
+ghost use Prim.Native.Nat.{_≤_};
 ghost use Rattle.io.specs.Counts.{Counts};
+ghost use Rattle.sheet.specs.Index.{Indexed};
 
 // Room for one byte more than a sheet or a list may have, so that a longer one is seen.
 fn input() -> [u8; 65537]
@@ -26,26 +28,53 @@ fn read_sheet(sheet: &mut [u8]) -> usize
     n
 }
 
-// Lists the names of a list under a sheet, and writes the text.
-fn list_names(sheet: &[u8], list: &[u8], out: &mut [u8]) {
-    match report::listing(sheet, list, out) {
-        Outcome::Done(n) => {
-            io::write_all(STDOUT_FILENO, &out[..n]);
+// Writes the lines of a list under a sheet that is indexed, part by part through a room.
+fn write_parts(
+    sheet: &[u8],
+    starts: &[u16; 3449],
+    heads: &[u16; 4096],
+    next: &[u16; 3449],
+    list: &[u8],
+    out: &mut [u8],
+)
+    requires { ⌜ Indexed (now sheet) (now starts) (now heads) (now next) × (192 ≤ length (now out)) ⌝ }
+{
+    let mut start = 0;
+    while start < list.len() {
+        let part = report::part(sheet, starts, heads, next, list, start, out);
+        let n = part.len;
+        if !io::write_all(STDOUT_FILENO, &out[..n]) {
+            return;
         }
-        Outcome::Refused(_) => {}
+        start = part.next;
     }
 }
 
-// The same with room for the longest listing that 65,537 bytes of names can lead to.
-fn list_all(sheet: &[u8], list: &[u8]) {
-    let mut out = [0u8; 4391050];
-    list_names(sheet, list, &mut out);
+// Writes the listing of a list under a sheet through a room: the line of a refusal, or all parts.
+fn write_listing(sheet: &[u8], list: &[u8], out: &mut [u8])
+    requires { ⌜ 192 ≤ length (now out) ⌝ }
+{
+    let mut starts = distinct::no_links();
+    let mut heads = distinct::no_heads();
+    let mut next = distinct::no_links();
+    match report::begin(sheet, &mut starts, &mut heads, &mut next, list, out) {
+        Outcome::Done(n) => {
+            if n == 0 {
+                write_parts(sheet, &starts, &heads, &next, list, out);
+            } else {
+                io::write_all(STDOUT_FILENO, &out[..n]);
+            }
+        }
+        // never: the line of a refusal fits the room
+        Outcome::Refused(_) => {}
+    }
 }
 
 fn main() {
     let mut sheet = input();
     let mut list = input();
+    let mut out = [0u8; 65536];
     let n = read_sheet(&mut sheet);
     let m = io::read_full(STDIN_FILENO, &mut list);
-    list_all(&sheet[..n], &list[..m]);
+    write_listing(&sheet[..n], &list[..m], &mut out);
 }

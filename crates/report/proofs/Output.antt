@@ -1,12 +1,12 @@
--- The lines that were measured or written so far.
+-- The lines that a part has written so far.
 -- Assumes nothing.
 use mathlib.Core.Bool.{Bool, true, cond}
-use mathlib.Core.List.{List, [], _++_, append-assoc, append-nil}
+use mathlib.Core.List.{List, [], _∷_, _++_, append-assoc, append-nil}
 use mathlib.Core.Path.{_≡_, refl, sym, ap, _∙_, subst}
-use Prim.Native.Nat.{ℕ, _+_, _-_, _*_, _≤_}
+use Prim.Native.Nat.{ℕ, _+_, _-_, _≤_}
 use native.Mathlib.Omega.{arith}
 use lib.ListN.{length, take, drop, length-append, length-drop}
-use lib.Seq.{take-at, take-all, drop-append-add, drop-drop, length-take-le}
+use lib.Seq.{take-at, take-all, drop-append-add, drop-drop}
 use lib.Dec.{leb}
 use borrow.Author.Tests.{le-leb}
 use Rattle.air.specs.Choices.{chosen}
@@ -16,112 +16,74 @@ use Rattle.line.specs.declared.Line.{Line}
 use Rattle.octets.specs.Bytes.{part}
 use Rattle.octets.specs.Room.{text, refused, fitting, written}
 use Rattle.report.specs.Listing.{linesOf, linesBy}
-use Rattle.report.specs.Steps.{FirstLine, Enough, measured, longest}
-use Rattle.report.proofs.Input.{none-left, dropped}
+use Rattle.report.specs.Steps.{FirstLine, Part}
+use Rattle.report.proofs.Input.{dropped}
 
--- all lines, those from a place of the input on, and the line of one name
-abbrev pub all : List ℕ → List ℕ → List ℕ
-all sheet list = linesBy chosen sheet (linesOf list)
-
-abbrev from : List ℕ → List ℕ → ℕ → List ℕ
-from sheet list start = linesBy chosen sheet (linesOf (drop start list))
-
+-- the line of one name
 abbrev pub one : List ℕ → List ℕ → List ℕ
 one sheet spelled = line spelled (searchBy chosen sheet spelled)
 
--- `done` are the lines of the input before `start`, `at` bytes
-pub record Along (sheet list : List ℕ) (start at : ℕ) : Type 0 where
-  pub done : List ℕ
-  pub whole : all sheet list ≡ done ++ from sheet list start
-  pub here : at ≡ length done
-  pub few : at ≤ 67 * start
-  pub inside : start ≤ length list + 1
+pub lines-append : (sheet : List ℕ) (a b : List (List ℕ)) → linesBy chosen sheet (a ++ b) ≡ linesBy chosen sheet a ++ linesBy chosen sheet b
+unfolding linesBy
+lines-append sheet [] b = refl
+lines-append sheet (n ∷ ns) b =
+    ap (λ (l : List ℕ). one sheet n ++ l) (lines-append sheet ns b)
+    ∙ sym (append-assoc (one sheet n) (linesBy chosen sheet ns) (linesBy chosen sheet b))
 
-pub along-none : (sheet list : List ℕ) → Along sheet list 0 0
-along-none sheet list = record { done = []; whole = refl; here = refl; few = omega arith; inside = omega arith }
+lines-one : (sheet n : List ℕ) → linesBy chosen sheet (n ∷ []) ≡ one sheet n
+unfolding linesBy
+lines-one sheet n = append-nil (one sheet n)
 
-module _ (sheet list : List ℕ) (start at : ℕ) (a : Along sheet list start at) where
-  pub along-all : length list ≤ start → a .done ≡ all sheet list
-  unfolding linesBy
-  along-all h =
-      sym (a .whole ∙ ap (λ (ns : List (List ℕ)). a .done ++ linesBy chosen sheet ns) (none-left list start h) ∙ append-nil (a .done))
+pub part-none : (sheet list room : List ℕ) (start : ℕ) → Part sheet list room room start start 0
+unfolding linesBy
+part-none sheet list room start = record { done = []; names = refl; holds = refl; here = refl; inside = omega arith }
 
-  module _ (end : ℕ) (x : Line) (f : FirstLine list start end) (e : x ≡ lineHeld (one sheet (part list start (end - start)))) (h : x .len ≤ length (part list start (end - start)) + 67) where
-    abbrev this : List ℕ
-    this = one sheet (part list start (end - start))
+module _ (sheet list room out : List ℕ) (first start at : ℕ) (p : Part sheet list room out first start at) where
+  abbrev before : List ℕ
+  before = linesBy chosen sheet (p .done)
 
-    len-is : x .len ≡ length this
-    len-is = ap (λ (y : Line). y .len) e
+  pub part-room : length out ≡ length room
+  part-room = omega (arith, ap length (p .holds), length-append before (drop (length before) room), length-drop (length before) room, p .here, p .inside)
 
-    split : from sheet list start ≡ this ++ from sheet list (end + 1)
-    unfolding linesBy
-    split = ap (linesBy chosen sheet) (f .first)
+  module _ (end : ℕ) (x : Line) (f : FirstLine list start end) (e : x ≡ lineHeld (one sheet (part list start (end - start))))
+      (k : at + x .len ≤ length room) (last : List ℕ) (q : last ≡ take at out ++ (one sheet (part list start (end - start)) ++ drop (at + x .len) out)) where
+    abbrev name : List ℕ
+    name = part list start (end - start)
 
-    -- the next line is at most 67 bytes for each byte that it takes from the input
-    pub bound : at + x .len ≤ 67 * (end + 1)
-    bound =
-        let i = f .from in
-        let k = a .few in
-        omega (arith, length-take-le (end - start) (drop start list) (omega (arith, length-drop start list, f .inside)))
+    after : linesBy chosen sheet (p .done ++ (name ∷ [])) ≡ before ++ one sheet name
+    after = lines-append sheet (p .done) (name ∷ []) ∙ ap (λ (l : List ℕ). before ++ l) (lines-one sheet name)
 
-    pub along-next : Along sheet list (end + 1) (at + x .len)
-    along-next =
-        let k = f .inside in
+    size : at + x .len ≡ length (before ++ one sheet name)
+    size = omega (arith, p .here, ap (λ (y : Line). y .len) e, length-append before (one sheet name))
+
+    front : take at out ≡ before
+    front = ap (take at) (p .holds) ∙ take-at before (drop (length before) room) at (sym (p .here))
+
+    behind : drop (at + x .len) out ≡ drop (at + x .len) room
+    behind =
+        let h : out ≡ before ++ drop at room = p .holds ∙ ap (λ (n : ℕ). before ++ drop n room) (sym (p .here)) in
+        ap (drop (at + x .len)) h
+        ∙ subst (λ (m : ℕ). drop (m + x .len) (before ++ drop at room) ≡ drop (x .len) (drop at room)) (sym (p .here)) (drop-append-add before (drop at room) (x .len))
+        ∙ drop-drop (x .len) at room
+
+    grown : last ≡ (before ++ one sheet name) ++ drop (at + x .len) room
+    grown =
+        q
+        ∙ ap (λ (y : List ℕ). y ++ (one sheet name ++ drop (at + x .len) out)) front
+        ∙ ap (λ (y : List ℕ). before ++ (one sheet name ++ y)) behind
+        ∙ sym (append-assoc before (one sheet name) (drop (at + x .len) room))
+
+    pub part-next : Part sheet list room last first (end + 1) (at + x .len)
+    part-next =
         record {
-          done = a .done ++ this;
-          whole = a .whole ∙ ap (λ (l : List ℕ). a .done ++ l) split ∙ sym (append-assoc (a .done) this (from sheet list (end + 1)));
-          here = omega (arith, a .here, length-append (a .done) this, len-is);
-          few = bound;
-          inside = omega arith;
-        }
-
-    pub fits : (room : ℕ) → Enough (all sheet list) list room → at + x .len ≤ room
-    fits room (measured k) =
-        let w = ap length (a .whole ∙ ap (λ (l : List ℕ). a .done ++ l) split) in
-        omega (arith, w, length-append (a .done) (this ++ from sheet list (end + 1)), length-append this (from sheet list (end + 1)), a .here, len-is)
-    fits room (longest k) = let i = f .inside in omega (arith, bound)
-
--- the same with the room that has these lines in front
-pub record Written (sheet list out₀ out : List ℕ) (start at : ℕ) : Type 0 where
-  pub along : Along sheet list start at
-  pub holds : out ≡ along .done ++ drop at out₀
-  pub same : length out ≡ length out₀
-  pub room : at ≤ length out₀
-
-pub written-none : (sheet list out₀ : List ℕ) → Written sheet list out₀ out₀ 0 0
-unfolding along-none
-written-none sheet list out₀ = record { along = along-none sheet list; holds = refl; same = refl; room = omega arith }
-
-module _ (sheet list out₀ out : List ℕ) (start at : ℕ) (w : Written sheet list out₀ out start at) where
-  pub written-all : length list ≤ start → (at ≡ length (all sheet list)) × (out ≡ all sheet list ++ drop (length (all sheet list)) out₀)
-  written-all h =
-      let d : w .along .done ≡ all sheet list = along-all sheet list start at (w .along) h in
-      let l : at ≡ length (all sheet list) = w .along .here ∙ ap length d in
-      (l, w .holds ∙ ap (λ (t : List ℕ). t ++ drop at out₀) d ∙ ap (λ (n : ℕ). all sheet list ++ drop n out₀) l)
-
-  module _ (end : ℕ) (x : Line) (f : FirstLine list start end) (e : x ≡ lineHeld (one sheet (part list start (end - start)))) (h : x .len ≤ length (part list start (end - start)) + 67)
-      (k : at + x .len ≤ length out₀) (last : List ℕ) (p : last ≡ take at out ++ (one sheet (part list start (end - start)) ++ drop (at + x .len) out)) where
-    pub written-next : Written sheet list out₀ last (end + 1) (at + x .len)
-    unfolding along-next
-    written-next =
-        let t : List ℕ = one sheet (part list start (end - start)) in
-        let d : List ℕ = w .along .done in
-        let l : length d ≡ at = sym (w .along .here) in
-        let a : take at out ≡ d = ap (take at) (w .holds) ∙ take-at d (drop at out₀) at l in
-        let b : drop (at + x .len) out ≡ drop (at + x .len) out₀ =
-        ap (drop (at + x .len)) (w .holds)
-        ∙ subst (λ (m : ℕ). drop (m + x .len) (d ++ drop at out₀) ≡ drop (x .len) (drop at out₀)) l (drop-append-add d (drop at out₀) (x .len))
-        ∙ drop-drop (x .len) at out₀ in
-        let q : last ≡ (d ++ t) ++ drop (at + x .len) out₀ =
-        p
-        ∙ ap (λ (y : List ℕ). y ++ (t ++ drop (at + x .len) out)) a
-        ∙ ap (λ (y : List ℕ). d ++ (t ++ y)) b
-        ∙ sym (append-assoc d t (drop (at + x .len) out₀)) in
-        record {
-          along = along-next sheet list start at (w .along) end x f e h;
-          holds = q;
-          same = omega (arith, ap (λ (y : Line). y .len) e, ap length q, length-append (d ++ t) (drop (at + x .len) out₀), length-append d t, length-drop (at + x .len) out₀);
-          room = k;
+          done = p .done ++ (name ∷ []);
+          names =
+              p .names
+              ∙ ap (λ (ns : List (List ℕ)). p .done ++ ns) (f .first)
+              ∙ sym (append-assoc (p .done) (name ∷ []) (linesOf (drop (end + 1) list)));
+          holds = rw after (grown ∙ ap (λ (n : ℕ). (before ++ one sheet name) ++ drop n room) size);
+          here = rw after size;
+          inside = k;
         }
 
 -- a text that is put behind a place: the middle that is lent is the rest of the room

@@ -43,6 +43,10 @@ listingFor number input lines =
 unfoldable pub listingBy : Choices → List ℕ → List ℕ → List ℕ
 listingBy c sheet input = listingFor (numberOf (sheetOf sheet)) input (linesBy c sheet (linesOf input))
 
+-- the line of a refused sheet or list; nothing where neither is refused
+unfoldable pub refusalOf : List ℕ → List ℕ → List ℕ
+refusalOf sheet input = listingFor (numberOf (sheetOf sheet)) input []
+
 -- lines of spelled names, each with an answer that document 01 allows for its search
 pub data Lines (sheet : List ℕ) : List (List ℕ) → List ℕ → Type 0 where
   done : Lines sheet [] []

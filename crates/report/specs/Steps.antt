@@ -1,10 +1,14 @@
--- The steps of the listing's loops: the next line of the input, and why the room is long enough.
-use mathlib.Core.List.{List, _∷_}
+-- The steps of the listing: the next line of the input, the lines that fit a room, and all that is written.
+use mathlib.Core.List.{List, [], _∷_, _++_}
 use mathlib.Core.Path.{_≡_}
-use Prim.Native.Nat.{ℕ, _+_, _-_, _*_, _≤_}
-use lib.ListN.{length, drop}
+use Prim.Native.Nat.{ℕ, _+_, _-_, _≤_, _<_}
+use lib.ListN.{length, take, drop}
+use Rattle.air.specs.Choices.{chosen}
 use Rattle.octets.specs.Bytes.{part}
-use Rattle.report.specs.Listing.{linesOf}
+use Rattle.octets.specs.Room.{text, written}
+use Rattle.octets.specs.declared.Outcome.{Outcome}
+use Rattle.octets.specs.declared.Outcome.the-variants.{Done}
+use Rattle.report.specs.Listing.{linesOf, linesBy}
 
 -- the line that starts at a place ends before `end`, and the others start behind it
 pub record FirstLine (list : List ℕ) (start end : ℕ) : Type 0 where
@@ -12,11 +16,25 @@ pub record FirstLine (list : List ℕ) (start end : ℕ) : Type 0 where
   pub inside : end ≤ length list
   pub first : linesOf (drop start list) ≡ part list start (end - start) ∷ linesOf (drop (end + 1) list)
 
--- room for the longest listing of a list: 67 bytes for each of its bytes, and 71
-abbrev pub longestOf : List ℕ → ℕ
-longestOf list = 67 * length list + 71
+-- a part of the listing: `done` are the names from `start` on, those left start at `next`. Their lines stand in front of the
+-- room, `len` bytes. How many names a part has is the program's choice
+pub record Part (sheet list room last : List ℕ) (start next len : ℕ) : Type 0 where
+  pub done : List (List ℕ)
+  pub names : linesOf (drop start list) ≡ done ++ linesOf (drop next list)
+  pub holds : last ≡ written (text (linesBy chosen sheet done)) room
+  pub here : len ≡ length (linesBy chosen sheet done)
+  pub inside : len ≤ length room
 
--- room that a text fits: as long as the text, or as the longest listing
-pub data Enough (text list : List ℕ) (room : ℕ) : Type 0 where
-  measured : length text ≤ room → Enough text list room
-  longest : longestOf list ≤ room → Enough text list room
+-- what parts write, one behind the other, from a place to the end of the list
+pub data Parts (sheet list : List ℕ) : ℕ → List ℕ → Type 0 where
+  none : {start : ℕ} → length list ≤ start → Parts sheet list start []
+  more :
+      {room last rest : List ℕ} {start next len : ℕ}
+      → Part sheet list room last start next len
+      → Parts sheet list next rest
+      → Parts sheet list start (take len last ++ rest)
+
+-- what the program writes, by what `begin` answered and left in the room: the line of a refusal, or all parts
+pub data Output (sheet list room : List ℕ) : Outcome → List ℕ → Type 0 where
+  refusal : {n : ℕ} → 0 < n → Output sheet list room (Done n) (take n room)
+  lines : {out : List ℕ} → Parts sheet list 0 out → Output sheet list room (Done 0) out

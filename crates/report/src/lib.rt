@@ -1,4 +1,4 @@
-// A line and the whole listing, written to lent room.
+// A line, and the listing in parts, written to lent room.
 use air::Answer;
 use line::Line;
 use octets::Outcome;
@@ -9,10 +9,16 @@ ghost use lib.ListN.{length, take, drop};
 ghost use Rattle.air.specs.Choices.{chosen};
 ghost use Rattle.calculator.specs.Search.{searchBy};
 ghost use Rattle.line.specs.Line.{line, refusalRest, lineHeld};
-ghost use Rattle.octets.specs.Room.{text, fitting, written, outcomeOf};
-ghost use Rattle.sheet.specs.Index.{Indexed};
-ghost use Rattle.report.specs.Listing.{linesOf, linesBy, listingBy};
-ghost use Rattle.report.specs.Steps.{FirstLine, Enough, longestOf};
+ghost use Rattle.octets.specs.Room.{fitting, written, outcomeOf};
+ghost use Rattle.sheet.specs.Index.{Blank, Indexed};
+ghost use Rattle.report.specs.Listing.{refusalOf};
+ghost use Rattle.report.specs.Steps.{FirstLine, Part};
+
+// How far a part came: the place of the first line that is left, and the bytes that were written.
+pub struct Progress {
+    pub next: usize,
+    pub len: usize,
+}
 
 // Copies a line to the start of lent room that is long enough for it.
 fn put_line(line: Line, out: &mut [u8]) -> Outcome
@@ -44,7 +50,7 @@ fn line_in(
 ) -> Line
     requires { ⌜ Indexed (now sheet) (now starts) (now heads) (now next) ⌝ }
     ensures { λ r. ⌜ r ≡ lineHeld (line (now (spelled .entry)) (searchBy chosen (now (sheet .entry)) (now (spelled .entry)))) ⌝ }
-    ensures { λ r. ⌜ r .len ≤ length (now (spelled .entry)) + 67 ⌝ }
+    ensures { λ r. ⌜ r .len ≤ 192 ⌝ }
 {
     line::line_of(
         spelled,
@@ -67,28 +73,6 @@ fn line_end(list: &[u8], start: usize) -> usize
     end
 }
 
-// How long all lines are together.
-fn measure(
-    sheet: &[u8],
-    starts: &[u16; 3449],
-    heads: &[u16; 4096],
-    next: &[u16; 3449],
-    list: &[u8],
-) -> usize
-    requires { ⌜ Indexed (now sheet) (now starts) (now heads) (now next) × (length (now list) ≤ 65536) ⌝ }
-    ensures { λ r. ⌜ r ≡ length (linesBy chosen (now (sheet .entry)) (linesOf (now (list .entry)))) ⌝ }
-{
-    let mut start = 0;
-    let mut at = 0;
-    while start < list.len() {
-        let end = line_end(list, start);
-        let line = line_in(sheet, starts, heads, next, &list[start..end]);
-        at += line.len;
-        start = end + 1;
-    }
-    at
-}
-
 // Copies a line to a place of a room that has space for it, and gives the place behind it.
 fn append(line: Line, out: &mut [u8], at: usize) -> usize
     requires { ⌜ (line .len ≤ length (line .bytes)) × (at + line .len ≤ length (now out)) ⌝ }
@@ -101,34 +85,6 @@ fn append(line: Line, out: &mut [u8], at: usize) -> usize
     at + n
 }
 
-// Writes all lines to the start of a room that is long enough for them, and gives their length.
-fn write_lines(
-    sheet: &[u8],
-    starts: &[u16; 3449],
-    heads: &[u16; 4096],
-    next: &[u16; 3449],
-    list: &[u8],
-    out: &mut [u8],
-) -> usize
-    requires { ⌜ Indexed (now sheet) (now starts) (now heads) (now next) × (length (now list) ≤ 65536) ⌝ }
-    requires { ⌜ Enough (linesBy chosen (now sheet) (linesOf (now list))) (now list) (length (now out)) ⌝ }
-    ensures { λ r. ⌜ (r ≡ length (linesBy chosen (now (sheet .entry)) (linesOf (now (list .entry))))) × (r ≤ length (now (out .entry))) ⌝ }
-    ensures { λ _. ⌜ now (out .exit) ≡ written (text (linesBy chosen (now (sheet .entry)) (linesOf (now (list .entry))))) (now (out .entry)) ⌝ }
-{
-    let mut start = 0;
-    let mut at = 0;
-    while start < list.len() {
-        let end = line_end(list, start);
-        at = append(
-            line_in(sheet, starts, heads, next, &list[start..end]),
-            out,
-            at,
-        );
-        start = end + 1;
-    }
-    at
-}
-
 // The line that refuses a whole sheet or list, in lent room.
 fn put_refused(word: &[u8], number: u32, out: &mut [u8]) -> Outcome
     requires { ⌜ length (now word) ≤ 120 ⌝ }
@@ -139,28 +95,66 @@ fn put_refused(word: &[u8], number: u32, out: &mut [u8]) -> Outcome
     put_line(line::build(word, Answer::Refused(number)), out)
 }
 
-// The whole listing, in lent room. The sheet is indexed once. Room for the longest listing is written in one pass; else the
-// lines are measured first, so that nothing is written where they do not fit.
-pub fn listing(sheet: &[u8], list: &[u8], out: &mut [u8]) -> Outcome
-    ensures { λ _. ⌜ (longestOf (now (list .entry)) ≤ length (now (out .entry)) → length (listingBy chosen (now (sheet .entry)) (now (list .entry))) ≤ length (now (out .entry))) ⌝ }
-    ensures { λ r. ⌜ r ≡ outcomeOf (fitting (length (now (out .entry))) (listingBy chosen (now (sheet .entry)) (now (list .entry)))) ⌝ }
-    ensures { λ _. ⌜ now (out .exit) ≡ written (fitting (length (now (out .entry))) (listingBy chosen (now (sheet .entry)) (now (list .entry)))) (now (out .entry)) ⌝ }
+// Begins a listing: indexes the sheet, and writes the line of a refused sheet or list to lent room, for which 71 bytes are enough.
+// Where it writes nothing, the lines follow in parts.
+pub fn begin(
+    sheet: &[u8],
+    starts: &mut [u16; 3449],
+    heads: &mut [u16; 4096],
+    next: &mut [u16; 3449],
+    list: &[u8],
+    out: &mut [u8],
+) -> Outcome
+    requires { ⌜ Blank (now starts) (now heads) (now next) ⌝ }
+    ensures { λ r. ⌜ r ≡ outcomeOf (fitting (length (now (out .entry))) (refusalOf (now (sheet .entry)) (now (list .entry)))) ⌝ }
+    ensures { λ _. ⌜ now (out .exit) ≡ written (fitting (length (now (out .entry))) (refusalOf (now (sheet .entry)) (now (list .entry)))) (now (out .entry)) ⌝ }
+    ensures { λ _. ⌜ length (refusalOf (now (sheet .entry)) (now (list .entry))) ≤ 71 ⌝ }
+    ensures { λ r. ⌜ (r ≡ Outcome.Done 0 → Indexed (now (sheet .entry)) (now (starts .exit)) (now (heads .exit)) (now (next .exit))) ⌝ }
 {
-    let mut starts = distinct::no_links();
-    let mut heads = distinct::no_heads();
-    let mut next = distinct::no_links();
-    let number = sheet::index(sheet, &mut starts, &mut heads, &mut next);
+    let number = sheet::index(sheet, starts, heads, next);
     if number != 0 {
         return put_refused(b"sheet", number, out);
     }
     if 65536 < list.len() {
         return put_refused(b"list", 15, out);
     }
-    if 67 * list.len() + 71 <= out.len() {
-        return Outcome::Done(write_lines(sheet, &starts, &heads, &next, list, out));
+    Outcome::Done(0)
+}
+
+// Writes the lines of a list from a place on, while the room has the 192 bytes left that a line is built in. A room of as many
+// takes a line at least, so that the parts come to an end.
+pub fn part(
+    sheet: &[u8],
+    starts: &[u16; 3449],
+    heads: &[u16; 4096],
+    next: &[u16; 3449],
+    list: &[u8],
+    start: usize,
+    out: &mut [u8],
+) -> Progress
+    requires { ⌜ Indexed (now sheet) (now starts) (now heads) (now next) ⌝ }
+    ensures { λ r. ⌜ Part (now (sheet .entry)) (now (list .entry)) (now (out .entry)) (now (out .exit)) start (r .next) (r .len) ⌝ }
+    ensures { λ r. ⌜ (start < length (now (list .entry)) → 192 ≤ length (now (out .entry)) → start < r .next) ⌝ }
+{
+    let mut from = start;
+    let mut at = 0;
+    while from < list.len() {
+        if out.len() - at < 192 {
+            return Progress {
+                next: from,
+                len: at,
+            };
+        }
+        let end = line_end(list, from);
+        at = append(
+            line_in(sheet, starts, heads, next, &list[from..end]),
+            out,
+            at,
+        );
+        from = end + 1;
     }
-    if out.len() < measure(sheet, &starts, &heads, &next, list) {
-        return Outcome::Refused(14);
+    Progress {
+        next: from,
+        len: at,
     }
-    Outcome::Done(write_lines(sheet, &starts, &heads, &next, list, out))
 }

@@ -9,7 +9,7 @@ use Rattle.name.specs.Name.{nameOf}
 use Rattle.line.specs.Line.{line, shownName, shownHeld}
 use Rattle.line.specs.declared.Shown.{Shown}
 use Rattle.line.proofs.Front.{front, front-inside}
-use Rattle.line.proofs.Names.{shown-short, shown-length}
+use Rattle.line.proofs.Names.{shown-short}
 use borrow.Author.Needs.{needs}
 use Rattle.line.proofs.line_of.Statement.{statement}
 use Rattle.line.proofs.line_of.Tie as tie
@@ -42,7 +42,7 @@ unfolding line
 returns c =
     let s = c .before .before .before .before .before .args .spelled .now in
     let b = rw (its-front (name (c .before .before .before .before .before)) _ (c .before .before .before .show .ensures)) at (c .build .ensures) in
-    (b .0, omega (arith, b .1, shown-length s))
+    (b .0, omega (arith, b .1, shown-short s))
 
 pub line-of-spec : {M : Type 1} → statement M
 line-of-spec =
