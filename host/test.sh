@@ -106,6 +106,12 @@ lists_each_name() {
     tr '\n' ' ' < "$work/longest-list" | tr -d ' ' > "$work/joined" && tr -d '\n' < "$work/names" | cmp - "$work/joined"
 }
 
+# With a full disk for standard output, standard error tells it.
+tells_lost_output() {
+    in_folder sample.eas "$@" < "$work/longest-list" > /dev/full 2> "$work/lost-message"
+    grep -q '^listing: the output could not be written' "$work/lost-message"
+}
+
 refuses_list() {
     in_folder sample.eas "$@" < "$work/too-long-list" > "$work/listed"
     cat "$work/listed"
@@ -149,6 +155,7 @@ if test $# -gt 0; then
     head -c 65537 "$work/long-list" > "$work/too-long-list"
     expect "a list of 65,536 bytes is listed" lists_each_name "$@"
     expect "a list over 65,536 bytes is refused" refuses_list "$@"
+    expect "a listing that cannot be written says so" tells_lost_output "$@"
 fi
 echo "tools: $checks checks, $failures failures"
 test $failures -eq 0

@@ -8,7 +8,7 @@ use lib.IntN.{ℤ, pos, natAbs, _+ℤ_, _*ℤ_}
 use lib.Signed.{shrZ}
 use Rattle.integer.specs.Laws.{abs-*}
 use Rattle.fit.specs.Range.{In, AllIn, Divides, Splits}
-use Rattle.fit.specs.Fit.{mul, bicubic, exponent}
+use Rattle.fit.specs.Fit.{mul, bicubic}
 use Rattle.fit.proofs.Size.{ceiling, Upto, upto-plus, upto-mul, size, bicubic-size-all}
 use Rattle.fit.proofs.Floors.{quotient-mono, quotient-size}
 use Rattle.fit.proofs.Machine.{all-at}
@@ -95,12 +95,7 @@ module _ {c y z : ℤ} (hc : In 44 c) (hy : In 25 y) (hz : In 25 z) where
   pub exponent-size : {a b d : ℤ} → In 44 a → In 44 b → In 44 d → In 57 (a +ℤ mul b y +ℤ mul d z +ℤ mul (mul c y) z)
   exponent-size ha hb hd = within 57 tt (upto-plus (sum-upto ha hb hd hy hz) cross-upto)
 
--- ---- what callers know of the results
-pub exponent-in : {c : List ℤ} {y z : ℤ} → AllIn 44 c → In 25 y → In 25 z → In 57 (exponent c y z)
-unfolding exponent
-exponent-in h hy hz = exponent-size (all-at h 3) hy hz (all-at h 0) (all-at h 1) (all-at h 2)
-
--- for |Y|, |Z| below 2^23; wider boxes go by the coefficients' own sizes (`bicubic-size`)
+-- ---- what callers know of the result, for |Y|, |Z| below 2^23; wider boxes go by the coefficients' own sizes (`bicubic-size`)
 pub bicubic-in : {k : List ℤ} {y z : ℤ} → AllIn 44 k → In 23 y → In 23 z → In 57 (bicubic k y z)
 unfolding size
 bicubic-in {k} {y} {z} h hy hz =

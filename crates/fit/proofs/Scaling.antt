@@ -1,4 +1,4 @@
--- The steps of `scaled`, and how large it and the entropy's two quotients are.
+-- The steps of `scaled`, and how large it and the perfect gas's entropy are.
 use mathlib.Core.Path.{_≡_, refl, sym, ap, _∙_, subst}
 use Prim.Native.Nat.{_+_, _*_, _^_, _≤_, _<_}
 use native.Mathlib.Nat.{mul-le-mul, mul-le-mul-right, le-of-lt}
@@ -67,9 +67,6 @@ scaling w b h least most hb e =
 pub fitted-in : {a w b : ℤ} → In 57 a → pos 0 ≤ℤ w → w ≤ℤ pos units → In 57 b → In 58 (a +ℤ shrZ (w *ℤ b) units)
 fitted-in {a} {w} {b} ha least most hb =
     record { size = omega (arith, abs-+ a (shrZ (w *ℤ b) units), scaled-size w b least most, ha .size, hb .size) }
-
-pub entropy-of-fit-size : (n : ℤ) → natAbs (shrZ (pos 28706 *ℤ n) (10 ^ 8)) ≤ natAbs n
-entropy-of-fit-size n = quotient-upto (pos 28706 *ℤ n) (natAbs n) (10 ^ 8) (lit< tt) (rw abs-* (omega arith))
 
 pub entropy-rise-size : (m : ℤ) → natAbs (shrZ (m *ℤ pos 28706 *ℤ pos 2302585) (2 * 10 ^ 10)) ≤ 4 * natAbs m
 entropy-rise-size m =

@@ -1,4 +1,5 @@
 // The listing program: reads sheet.eas and the names on standard input, and writes the listing.
+use libc::STDERR_FILENO;
 use libc::STDIN_FILENO;
 use libc::STDOUT_FILENO;
 use octets::Outcome;
@@ -28,6 +29,18 @@ fn read_sheet(sheet: &mut [u8]) -> usize
     n
 }
 
+// Writes bytes to standard output. Where that fails, as on a full disk, standard error says so: a program has no exit status of its own.
+fn emit(bytes: &[u8]) -> bool {
+    if io::write_all(STDOUT_FILENO, bytes) {
+        return true;
+    }
+    io::write_all(
+        STDERR_FILENO,
+        b"listing: the output could not be written, it is not whole\n",
+    );
+    false
+}
+
 // Writes the lines of a list under a sheet that is indexed, part by part through a room.
 fn write_parts(
     sheet: &[u8],
@@ -43,7 +56,7 @@ fn write_parts(
     while start < list.len() {
         let part = report::part(sheet, starts, heads, next, list, start, out);
         let n = part.len;
-        if !io::write_all(STDOUT_FILENO, &out[..n]) {
+        if !emit(&out[..n]) {
             return;
         }
         start = part.next;
@@ -62,7 +75,7 @@ fn write_listing(sheet: &[u8], list: &[u8], out: &mut [u8])
             if n == 0 {
                 write_parts(sheet, &starts, &heads, &next, list, out);
             } else {
-                io::write_all(STDOUT_FILENO, &out[..n]);
+                emit(&out[..n]);
             }
         }
         // never: the line of a refusal fits the room

@@ -12,14 +12,6 @@ use Rattle.tgas.specs.Temperature.{temperatureIndex, pieceCount}
 use Rattle.tgas.specs.Region.{beyondWindow, isPerfect, pickRegion, regionOf}
 use Rattle.tgas.proofs.Pieces.{index-is-piece}
 
-pub refused-region : (y z : ℤ) → regionOf y z ≡ Refused → beyondWindow z ≡ true
-refused-region y z e = go (beyondWindow z) (isPerfect z) e
-  where
-    go : (p q : Bool) → pickRegion p Refused (pickRegion q Perfect (Fitted (bandOf y) (temperatureIndex (bandOf y) z))) ≡ Refused → p ≡ true
-    go true q e = refl
-    go false true e = let f : _≡_ {A = ℕ} 0 1 = cc in absurd (omega arith)
-    go false false e = let f : _≡_ {A = ℕ} 0 1 = cc in absurd (omega arith)
-
 pub record IsPerfect (z : ℤ) : Type 0 where
   pub window : beyondWindow z ≡ false
   pub perfect : isPerfect z ≡ true

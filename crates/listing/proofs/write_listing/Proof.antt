@@ -35,20 +35,20 @@ write-parts-requires c κs =
     let n = c .before .before .before .before .before .before .n in
     (b .begin .ensures .1 .1 .1 (n .given .1 ∙ ap Done (c .before .before .before .before .if1 .taken)), search needs)
 
-slice-reshare-prefix-write-all : tie.Need-slice-reshare-prefix-write-all
-slice-reshare-prefix-write-all c =
+slice-reshare-prefix-emit : tie.Need-slice-reshare-prefix-emit
+slice-reshare-prefix-emit c =
     let s = c .before .before .before .before .before .before .before .before .before .before .before .before .before .before .before .before .before in
     let p = c .before .before .before .before .before .before .begin .ensures in
     done-inside (refusal s) _ (s .args .out .now) _ _ (p .0) (c .before .before .n .given .1) (p .1 .0)
 
-slice-aggregate-write-all : tie.Need-slice-aggregate-write-all
-slice-aggregate-write-all c =
+slice-aggregate-emit : tie.Need-slice-aggregate-emit
+slice-aggregate-emit c =
     let s = c .before .before .before .before .before .before .before .before .before .before .before .before .before .before .before .before .before .before in
     let p = c .before .before .before .before .before .before .before .begin .ensures in
     sym (length-take-le _ _ (done-inside (refusal s) _ (s .args .out .now) _ _ (p .0) (c .before .before .before .n .given .1) (p .1 .0)))
 
-write-all-requires : tie.Need-write-all-requires
-write-all-requires c κs = search needs
+emit-requires : tie.Need-emit-requires
+emit-requires c κs = search needs
 
 enum-told : tie.Need-enum-told
 enum-told c = search needs
@@ -81,9 +81,9 @@ write-listing-spec =
     begin-requires
     enum-known-n
     write-parts-requires
-    slice-reshare-prefix-write-all
-    slice-aggregate-write-all
-    write-all-requires
+    slice-reshare-prefix-emit
+    slice-aggregate-emit
+    emit-requires
     enum-told
     same-length
     returns

@@ -20,14 +20,14 @@ loop-holds c = refl
 part-requires : tie.Need-part-requires Inv-loop μ-loop
 part-requires c κs = search needs
 
-slice-reshare-prefix-write-all : tie.Need-slice-reshare-prefix-write-all Inv-loop μ-loop
-slice-reshare-prefix-write-all c = omega (arith, c .before .before .part .ensures .0 .inside)
+slice-reshare-prefix-emit : tie.Need-slice-reshare-prefix-emit Inv-loop μ-loop
+slice-reshare-prefix-emit c = omega (arith, c .before .before .part .ensures .0 .inside)
 
-slice-aggregate-write-all : tie.Need-slice-aggregate-write-all Inv-loop μ-loop
-slice-aggregate-write-all c = sym (length-take-le _ _ (omega (arith, c .before .before .before .part .ensures .0 .inside)))
+slice-aggregate-emit : tie.Need-slice-aggregate-emit Inv-loop μ-loop
+slice-aggregate-emit c = sym (length-take-le _ _ (omega (arith, c .before .before .before .part .ensures .0 .inside)))
 
-write-all-requires : tie.Need-write-all-requires Inv-loop μ-loop
-write-all-requires c κs = search needs
+emit-requires : tie.Need-emit-requires Inv-loop μ-loop
+emit-requires c κs = search needs
 
 same-length : tie.Need-same-length Inv-loop μ-loop
 same-length c = search needs
@@ -59,9 +59,9 @@ write-parts-spec =
     μ-loop
     loop-holds
     part-requires
-    slice-reshare-prefix-write-all
-    slice-aggregate-write-all
-    write-all-requires
+    slice-reshare-prefix-emit
+    slice-aggregate-emit
+    emit-requires
     same-length
     returns
     loop-less
