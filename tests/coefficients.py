@@ -48,12 +48,20 @@ def spec_lists(file):
 def code_lists(file):
     """name of the definition that a function ensures, to the numbers that it returns"""
     text = (TGAS / "src" / file).read_text()
-    found = re.findall(r"fn \w+\(\) -> \[i64; (\d+)\]\n    ensures \{ λ r\. ⌜ r ≡ (\S+) ⌝ \}\n\{\n    \[([^\]]*)\]", text)
     lists = {}
-    for length, name, body in found:
+
+    def take(name, body, length):
         lists[name] = [int(n.replace("_", "")) for n in re.findall(r"-?\d[\d_]*", body)]
-        if len(lists[name]) != int(length):
+        if len(lists[name]) != length:
             sys.exit(f"{file}: {name} has {len(lists[name])} numbers")
+
+    for length, name, body in re.findall(r"fn \w+\(\) -> \[i64; (\d+)\]\n    ensures \{ λ r\. ⌜ r ≡ (\S+) ⌝ \}\n\{\n    \[([^\]]*)\]", text):
+        take(name, body, int(length))
+    # a piece: the names of its lists stand in its ensures, in the order of the fields
+    for names, body in re.findall(r"fn \w+\(\) -> Coefficients\n    ensures \{ λ r\. ⌜ pieceOf r ≡ ([^⌝]*) ⌝ \}\n\{\n((?: .*\n)*)\}", text):
+        fields = re.findall(r"(first|second|terms): \[([^\];]*)\]", body)
+        for name, (field, numbers) in zip(re.findall(r"\w+-[ABq]\b", names), fields, strict=True):
+            take(name, numbers, 4 if field == "terms" else 10)
     return lists
 
 

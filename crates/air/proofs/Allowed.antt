@@ -16,6 +16,7 @@ use Rattle.power.proofs.Kelvin.{power-is}
 use Rattle.weight.proofs.Near.{weight-is}
 use Rattle.weight.specs.Weight.{tolerance}
 use Rattle.fit.specs.Fit.{Piece, alone, joint, Weighs}
+use Rattle.fit.specs.Edge.{weightWith}
 use Rattle.tgas.specs.Temperature.{temperaturePiece}
 use Rattle.tgas.specs.declared.Region.{Region}
 use Rattle.tgas.specs.declared.Region.the-variants.{Refused, Perfect, Fitted}
@@ -30,7 +31,7 @@ use Rattle.air.specs.Held.{Held, held, refuses}
 use Rattle.air.specs.Temperature.{IsTemperature, TemperatureLogs, Fits, FitsIn, fitOf, beyondFit, wholeMillionths, temperatureIn, temperatureFrom}
 use Rattle.air.specs.Entropy.{IsEntropy, EntropyLogs, entropyFrom}
 use Rattle.air.specs.Choices.{Choices, Lawful, chosen}
-use Rattle.air.specs.State.{Property, temperatureProperty, entropyProperty, propertyOf, temperatureLogs, entropyLogs, weightOfPiece, edgeBy, kelvinBy, fittedBy, temperatureAt, temperatureBy, Either, IsHeld, IsAnswer, ranged, heldBy, answerBy}
+use Rattle.air.specs.State.{Property, temperatureProperty, entropyProperty, propertyOf, temperatureLogs, entropyLogs, edgeBy, kelvinBy, fittedBy, temperatureAt, temperatureBy, Either, IsHeld, IsAnswer, ranged, heldBy, answerBy}
 use Rattle.air.proofs.Tests.{and-left, and-right, not-left, not-right}
 
 -- what a G that 13 lets through has for whole millionths
@@ -41,14 +42,14 @@ raised c law (pos g) t =
 raised c law (negsuc g) t = absurd t
 
 module _ (c : Choices) (law : Lawful c) where
-  weighed : (k : Piece) (y z : ℤ) → Weighs tolerance k y z (weightOfPiece c k y z)
+  weighed : (k : Piece) (y z : ℤ) → Weighs tolerance k y z (weightWith (c .weight) k y z)
   weighed (alone a) y z = refl
   weighed (joint a b q) y z = law .weight _
 
   weight-in : Region → Logs → ℤ
   weight-in Refused l = pos 0
   weight-in Perfect l = pos 0
-  weight-in (Fitted b i) l = weightOfPiece c (temperaturePiece b i) (l .y) (l .z)
+  weight-in (Fitted b i) l = weightWith (c .weight) (temperaturePiece b i) (l .y) (l .z)
 
   kelvin-in : Region → Logs → ℕ
   kelvin-in Refused l = 0
@@ -61,7 +62,7 @@ module _ (c : Choices) (law : Lawful c) where
   fits-in Perfect l = tt
   fits-in (Fitted b i) l =
       let k : Piece = temperaturePiece b i in
-      record { weighed = weighed k (l .y) (l .z); raised = raised c law (fitOf k l (weightOfPiece c k (l .y) (l .z))) }
+      record { weighed = weighed k (l .y) (l .z); raised = raised c law (fitOf k l (weightWith (c .weight) k (l .y) (l .z))) }
 
   made : (r : Region) (p d : ℕ) (l : Logs) → temperatureAt c r p d l ≡ temperatureIn r p d l (weight-in r l) (kelvin-in r l)
   unfolding fittedBy weight-in kelvin-in

@@ -22,7 +22,7 @@ use Rattle.kind.specs.Kind.{kindOf}
 use Rattle.kind.specs.declared.Kind.{Kind}
 use Rattle.kind.specs.declared.Kind.the-variants.{Temperature, Entropy, Unknown}
 use Rattle.air.specs.declared.Logs.{Logs}
-use Rattle.air.specs.declared.Edge.{Edge}
+use Rattle.fit.specs.declared.Edge.{Edge}
 use Rattle.air.specs.declared.Edges.{Edges}
 use Rattle.air.specs.declared.Edges.the-variants.{Unfitted, One}
 use Rattle.air.specs.declared.Ends.the-variants.{Unjoined}

@@ -21,6 +21,9 @@ use Rattle.tgas.proofs.Pieces.{entropy-small}
 use Rattle.perfect.specs.Perfect.{R}
 use Rattle.air.specs.Entropy.{rise, perfectEntropy, fittedEntropy, entropyAt}
 
+pub in-23 : (z : ℤ) → natAbs z ≤ 7000000 → In 23 z
+in-23 z h = record { size = omega (arith, h) }
+
 pub in-25 : (z : ℤ) → natAbs z ≤ 7000000 → In 25 z
 in-25 z h = record { size = omega (arith, h) }
 

@@ -9,7 +9,7 @@ use Rattle.fraction.specs.Fraction.{Fraction, Within, over, floor}
 use Rattle.fraction.specs.Tens.{Above, Below}
 use Rattle.perfect.specs.Perfect.{perfectGas}
 use Rattle.air.specs.declared.Logs.{Logs}
-use Rattle.air.specs.declared.Edge.{Edge}
+use Rattle.fit.specs.declared.Edge.{Edge}
 use Rattle.air.specs.declared.Edges.the-variants.{One}
 use Rattle.air.specs.Quantities.{T0}
 use Rattle.air.specs.Held.{Held}

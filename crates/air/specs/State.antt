@@ -6,7 +6,8 @@ use Prim.Native.Nat.{ℕ}
 use lib.Dec.{T}
 use lib.IntN.{ℤ, pos, natAbs, _-ℤ_}
 use lib.Signed.{ltZ}
-use Rattle.fit.specs.Fit.{Piece, alone, joint, exponent, fitted}
+use Rattle.fit.specs.Fit.{Piece}
+use Rattle.fit.specs.Edge.{edgeWith}
 use Rattle.tgas.specs.Temperature.{temperaturePiece}
 use Rattle.tgas.specs.declared.Region.{Region}
 use Rattle.tgas.specs.declared.Region.the-variants.{Refused, Perfect, Fitted}
@@ -15,7 +16,7 @@ use Rattle.kind.specs.declared.Kind.{Kind}
 use Rattle.kind.specs.declared.Kind.the-variants.{Temperature, Entropy, Unknown}
 use Rattle.kind.specs.Kind.{kindOf}
 use Rattle.air.specs.declared.Logs.{Logs}
-use Rattle.air.specs.declared.Edge.{Edge}
+use Rattle.fit.specs.declared.Edge.{Edge}
 use Rattle.air.specs.declared.Edges.{Edges}
 use Rattle.air.specs.declared.Edges.the-variants.{Unfitted, One, Two}
 use Rattle.air.specs.declared.Answer.{Answer}
@@ -45,14 +46,9 @@ pub record Property : Type 1 where
 abbrev pub temperatureLogs : Choices → ℕ → ℕ → Logs
 temperatureLogs c p d = record { triple = true; x = c .log p P0; y = c .log d D0; z = c .log p P0 -ℤ c .log d D0 }
 
--- W is 0 where there is no second bicubic
-abbrev pub weightOfPiece : Choices → Piece → ℤ → ℤ → ℤ
-weightOfPiece c (alone a) y z = pos 0
-weightOfPiece c (joint a b t) y z = c .weight (exponent (t .terms) y z)
-
 -- a piece's fit, and the temperature that its G makes
 abbrev pub edgeBy : Choices → Piece → ℤ → ℤ → Edge
-edgeBy c k y z = record { fit = fitted k y z (weightOfPiece c k y z); weight = weightOfPiece c k y z }
+edgeBy c k y z = edgeWith (c .weight) k y z
 
 abbrev pub kelvinBy : Choices → ℤ → ℕ
 kelvinBy c g = c .power (natAbs (wholeMillionths g))

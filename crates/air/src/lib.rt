@@ -1,4 +1,5 @@
 // A state of equilibrium air: what its answer is. Definitions and theorems; crates above work it out.
+use fit::Edge;
 ghost use mathlib.Core.Path.{_≡_};
 ghost use Rattle.air.specs.Quantities.{within};
 
@@ -8,12 +9,6 @@ pub struct Logs {
     pub x: i64,
     pub y: i64,
     pub z: i64,
-}
-
-// A fit: its value G and the weight W that it was worked out with, in units of 10^-10.
-pub struct Edge {
-    pub fit: i64,
-    pub weight: i64,
 }
 
 // The fits that an answer carries: none, one, or in a join the lower and the upper edge's.

@@ -3,9 +3,9 @@
 // A line of output repeats the state and adds the refusal's number or 0, the letter, x, y, z, the fit, its weight and the
 // value. A 0 stands for what the answer does not carry. tests/air_vectors.py judges every line.
 use air::Answer;
-use air::Edge;
 use air::Edges;
 use air::Logs;
+use fit::Edge;
 use libc::STDIN_FILENO;
 use libc::STDOUT_FILENO;
 

@@ -12,7 +12,7 @@ use Rattle.octets.specs.declared.Outcome.the-variants.{Done, Refused}
 use Rattle.sheet.specs.declared.Lookup.{Lookup}
 use Rattle.sheet.specs.declared.Lookup.the-variants.{Hit, Miss}
 use Rattle.air.specs.declared.Logs.{Logs}
-use Rattle.air.specs.declared.Edge.{Edge}
+use Rattle.fit.specs.declared.Edge.{Edge}
 use Rattle.air.specs.declared.Edges.{Edges}
 use Rattle.air.specs.declared.Edges.the-variants.{Unfitted, One, Two}
 use Rattle.air.specs.declared.Ends.{Ends}

@@ -1,9 +1,9 @@
 // The C interface: thin entries over the proved crates. No entry keeps state, and none asks anything of its caller.
 use air::Answer;
-use air::Edge;
 use air::Edges;
 use air::Ends;
 use air::Logs;
+use fit::Edge;
 use mark::Mark;
 use octets::Outcome;
 use sheet::Lookup;

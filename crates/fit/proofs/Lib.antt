@@ -7,3 +7,4 @@ pub mod Machine
 pub mod Ranges
 pub mod Scaling
 pub mod Line
+pub mod Pieces

@@ -1,3 +1,4 @@
 pub mod Range
 pub mod Fit
+pub mod Edge
 pub mod Exact

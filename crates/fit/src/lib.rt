@@ -5,8 +5,31 @@ ghost use Prim.Native.Nat.{_*_, _^_, _<_};
 ghost use lib.IntN.{pos, natAbs, _+ℤ_, _*ℤ_};
 ghost use lib.Signed.{shrZ, _≤ℤ_, _<ℤ_};
 ghost use Rattle.weight.specs.Weight.{units};
+ghost use Rattle.weight.specs.Choice.{weightOf};
 ghost use Rattle.fit.specs.Range.{In, AllIn, Divides, Splits, Between};
 ghost use Rattle.fit.specs.Fit.{mul, bicubic, exponent, straight};
+ghost use Rattle.fit.specs.Edge.{pieceOf, edgeWith, Workable};
+
+// What a piece has: a bicubic alone, or a second one with the exponent that leads to it.
+pub enum Form {
+    Alone,
+    Joint,
+}
+
+// The coefficients of a piece: its first bicubic (GAS1 to GAS4), its second (GAS5 to GAS8) and the terms of its exponent (GAS9).
+// What the form lacks is 0.
+pub struct Coefficients {
+    pub form: Form,
+    pub first: [i64; 10],
+    pub second: [i64; 10],
+    pub terms: [i64; 4],
+}
+
+// A fit: its value G and the weight W that it was worked out with, in units of 10^-10.
+pub struct Edge {
+    pub fit: i64,
+    pub weight: i64,
+}
 
 // a / m: moved up by a multiple of m to above 0, where the machine's quotient rounds down.
 fn floor_div(a: i64, m: i64) -> i64
@@ -126,6 +149,29 @@ pub fn fitted(a: i64, w: i64, b: i64) -> i64
     ensures { λ r. ⌜ r ≡ a +ℤ shrZ (w *ℤ b) units ⌝ }
 {
     a + scaled(w, b)
+}
+
+// The fit of a piece at Y and Z.
+pub fn edge_at(c: Coefficients, y: i64, z: i64) -> Edge
+    requires { ⌜ Workable (pieceOf c) y z ⌝ }
+    ensures { λ r. ⌜ r ≡ edgeWith weightOf (pieceOf c) y z ⌝ }
+{
+    let form = c.form;
+    let first = c.first;
+    let a = bicubic(first, y, z);
+    match form {
+        Form::Alone => Edge { fit: a, weight: 0 },
+        Form::Joint => {
+            let terms = c.terms;
+            let w = weight::weight(exponent(terms, y, z));
+            let second = c.second;
+            let b = bicubic(second, y, z);
+            Edge {
+                fit: fitted(a, w, b),
+                weight: w,
+            }
+        }
+    }
 }
 
 // The straight line from low at a to high at b.

@@ -1,36 +1,29 @@
 -- What the steps of a temperature's answer amount to, over the definitions.
 use mathlib.Core.Bool.{Bool, true, false, true≢false, _||_}
-use mathlib.Core.Path.{_≡_, refl, sym, ap, ap₂, _∙_, subst}
+use mathlib.Core.Path.{_≡_, refl, sym, ap, _∙_, subst}
 use Prim.Native.Nat.{ℕ, _+_, _*_, _/_, _^_, _≤_, _<_}
 use native.Mathlib.Nat.{div-le-of-le-mul}
 use native.Mathlib.Omega.{arith}
 use lib.Dec.{T}
-use lib.IntN.{ℤ, pos, negsuc, natAbs, _+ℤ_, _*ℤ_, _-ℤ_}
+use lib.IntN.{ℤ, pos, negsuc, natAbs}
 use lib.Signed.{_≤ℤ_, ltZ, shrZ, nonNeg}
 use mir.Syntax.{w64}
 use mir.Val.{Fits}
 use Rattle.integer.specs.Z.{≤→}
 use Rattle.integer.specs.Tests.{test-le, test-not-lt}
 use Rattle.integer.specs.Laws.{≤ℤ-trans}
-use Rattle.weight.specs.Weight.{units}
-use Rattle.weight.specs.Choice.{weightOf}
 use Rattle.power.specs.Choice.{powerOf}
 use Rattle.logarithm.proofs.Quotient.{ratio-small}
-use Rattle.fit.specs.Fit.{Piece, firstOf, secondOf, termsOf, bicubic, exponent}
-use Rattle.tgas.specs.declared.Band.{Band}
-use Rattle.tgas.specs.Temperature.{temperaturePiece, pieceCount}
 use Rattle.tgas.specs.Region.{beyondWindow}
-use Rattle.tgas.proofs.Pieces.{alone-at, joint-at}
 use Rattle.tgas.proofs.Regions.{IsPerfect}
 use Rattle.perfect.specs.Perfect.{Dividable}
 use Rattle.air.specs.declared.Logs.{Logs}
-use Rattle.air.specs.declared.Edge.{Edge}
 use Rattle.air.specs.declared.Ends.the-variants.{Unjoined}
 use Rattle.air.specs.Quantities.{P0, D0, isDensity}
 use Rattle.air.specs.Held.{Held, judges, shows}
 use Rattle.air.specs.Temperature.{letterT, oneEdge, beyondFit, fromFit, TemperatureLogs}
 use Rattle.air.specs.Choices.{chosen}
-use Rattle.air.specs.State.{edgeBy, kelvinBy}
+use Rattle.air.specs.State.{kelvinBy}
 use Rattle.air.proofs.Tests.{and-left, and-right, not-left, not-right, is-false, abs-of}
 use Rattle.temperature.specs.Ready.{TemperatureReady}
 
@@ -70,26 +63,6 @@ module _ (l : Logs) (g w : ℤ) where
   unfolding fromFit
   shown t a b e =
       ap (λ (n : ℕ). shows letterT l (oneEdge g w) Unjoined (pos n)) (e ∙ ap powerOf (sym (passes g a b .millionths))) ∙ simp (a, b)
-
--- ---- the fit of a piece
-module _ (b : Band) (i : ℕ) (y z : ℤ) where
-  pub alone-edge : (g : ℤ) → i ≡ 0 → g ≡ bicubic (firstOf (temperaturePiece b i)) y z → record { fit = g; weight = pos 0 } ≡ edgeBy chosen (temperaturePiece b i) y z
-  alone-edge g e h =
-      ap (λ (x : ℤ). record { fit = x; weight = pos 0 }) h
-      ∙ ap (λ (n : ℕ). record { fit = bicubic (firstOf (temperaturePiece b n)) y z; weight = pos 0 }) e
-      ∙ sym (ap (λ (p : Piece). edgeBy chosen p y z) (alone-at b))
-      ∙ ap (λ (n : ℕ). edgeBy chosen (temperaturePiece b n) y z) (sym e)
-
-  pub joint-edge : (a w s g : ℤ) → 0 < i → i < pieceCount b → a ≡ bicubic (firstOf (temperaturePiece b i)) y z
-      → w ≡ weightOf (exponent (termsOf (temperaturePiece b i)) y z) → s ≡ bicubic (secondOf (temperaturePiece b i)) y z
-      → g ≡ a +ℤ shrZ (w *ℤ s) units → record { fit = g; weight = w } ≡ edgeBy chosen (temperaturePiece b i) y z
-  joint-edge a w s g h l ea ew es eg =
-      let k : Piece = temperaturePiece b i in
-      ap₂ (λ (u v : ℤ). record { fit = u; weight = v })
-      (eg ∙ ap (λ (x : ℤ). x +ℤ shrZ (w *ℤ s) units) ea ∙ ap (λ (x : ℤ). bicubic (firstOf k) y z +ℤ shrZ (x *ℤ s) units) ew
-      ∙ ap (λ (x : ℤ). bicubic (firstOf k) y z +ℤ shrZ (weightOf (exponent (termsOf k) y z) *ℤ x) units) es)
-      ew
-      ∙ sym (ap (λ (p : Piece). edgeBy chosen p y z) (joint-at b i h l))
 
 -- ---- from the logarithms
 pub window-most : (z : ℤ) → beyondWindow z ≡ false → natAbs z ≤ 3000000

@@ -1,9 +1,9 @@
 // Temperature of a pressure and a density.
 use air::Answer;
-use air::Edge;
 use air::Edges;
 use air::Ends;
 use air::Logs;
+use fit::Edge;
 use tgas::Band;
 use tgas::Region;
 ghost use mathlib.Core.Path.{_≡_};
@@ -20,16 +20,7 @@ fn fit_at(band: Band, i: usize, y: i64, z: i64) -> Edge
     requires { ⌜ PieceReady band i y z ⌝ }
     ensures { λ r. ⌜ r ≡ edgeBy chosen (temperaturePiece band i) y z ⌝ }
 {
-    let a = fit::bicubic(tgas::temperature::first_bicubic(band, i), y, z);
-    if i == 0 {
-        return Edge { fit: a, weight: 0 };
-    }
-    let w = weight::weight(fit::exponent(tgas::temperature::exponent_terms(band, i), y, z));
-    let b = fit::bicubic(tgas::temperature::second_bicubic(band, i), y, z);
-    Edge {
-        fit: fit::fitted(a, w, b),
-        weight: w,
-    }
+    fit::edge_at(tgas::temperature::piece(band, i), y, z)
 }
 
 // Refusal 13, with the fit that it was judged by.

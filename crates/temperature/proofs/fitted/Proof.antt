@@ -2,7 +2,7 @@
 use mathlib.Core.Path.{ap, _∙_}
 use borrow.Author.Needs.{needs}
 use Rattle.fit.proofs.Machine.{back}
-use Rattle.air.specs.declared.Edge.{Edge}
+use Rattle.fit.specs.declared.Edge.{Edge}
 use Rattle.air.specs.Choices.{chosen}
 use Rattle.air.specs.Temperature.{fromFit}
 use Rattle.air.specs.State.{kelvinBy, fittedBy}
