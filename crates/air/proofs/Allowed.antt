@@ -1,23 +1,17 @@
 -- What lawful choices make of a state is an answer that document 01 allows.
 use mathlib.Core.Bool.{Bool, true, false, not, _&&_}
-use mathlib.Core.Option.{Option, none, some}
 use mathlib.Core.Path.{_≡_, refl, sym, ap, ap₂}
-use Prim.Native.Nat.{ℕ, _+_, _*_, _/_, _^_, _≤_, _<_}
+use Prim.Native.Nat.{ℕ, _/_, _^_, _≤_, _<_}
 use native.Mathlib.Nat.{div-le-of-le-mul}
 use native.Mathlib.Omega.{arith}
 use lib.Dec.{T, leb, leb→le, lit<}
-use lib.IntN.{ℤ, pos, negsuc, natAbs}
-use lib.Signed.{ltZ, ltZ-no, shrZ}
+use lib.IntN.{ℤ, pos, negsuc}
+use lib.Signed.{ltZ, ltZ-no}
 use Rattle.integer.specs.Z.{≤→}
 use Rattle.logarithm.specs.Log.{IsLog}
 use Rattle.logarithm.proofs.Ratios.{log-is}
-use Rattle.power.specs.Power.{IsPower}
 use Rattle.power.proofs.Kelvin.{power-is}
 use Rattle.weight.proofs.Near.{weight-is}
-use Rattle.weight.specs.Weight.{tolerance}
-use Rattle.fit.specs.Fit.{Piece, alone, joint, Weighs}
-use Rattle.fit.specs.Edge.{weightWith}
-use Rattle.tgas.specs.Temperature.{temperaturePiece}
 use Rattle.tgas.specs.declared.Region.{Region}
 use Rattle.tgas.specs.declared.Region.the-variants.{Refused, Perfect, Fitted}
 use Rattle.tgas.specs.Region.{regionOf}
@@ -26,49 +20,27 @@ use Rattle.kind.specs.declared.Kind.{Kind}
 use Rattle.kind.specs.declared.Kind.the-variants.{Temperature, Entropy, Unknown}
 use Rattle.air.specs.declared.Answer.{Answer}
 use Rattle.air.specs.declared.Logs.{Logs}
-use Rattle.air.specs.Quantities.{P0, D0, E0, T0, isPressure, isDensity, isEnergy}
+use Rattle.air.specs.Quantities.{P0, D0, E0, isPressure, isDensity, isEnergy}
 use Rattle.air.specs.Held.{Held, held, refuses}
-use Rattle.air.specs.Temperature.{IsTemperature, TemperatureLogs, Fits, FitsIn, fitOf, beyondFit, wholeMillionths, temperatureIn, temperatureFrom}
+use Rattle.air.specs.Temperature.{beyondFit, Raised, temperatureRule, temperatureStrip, TemperatureLogs, IsTemperatureIn, IsTemperature}
 use Rattle.air.specs.Entropy.{IsEntropy, EntropyLogs, entropyFrom}
 use Rattle.air.specs.Choices.{Choices, Lawful, chosen}
-use Rattle.air.specs.State.{Property, temperatureProperty, entropyProperty, propertyOf, temperatureLogs, entropyLogs, edgeBy, kelvinBy, fittedBy, temperatureAt, temperatureBy, Either, IsHeld, IsAnswer, ranged, heldBy, answerBy}
-use Rattle.air.proofs.Tests.{and-left, and-right, not-left, not-right}
+use Rattle.air.specs.State.{propertyOf, temperatureLogs, entropyLogs, kelvinBy, temperatureAt, temperatureBy, Either, IsHeld, IsAnswer, ranged, heldBy, answerBy}
+use Rattle.air.proofs.Tests.{and-left, and-right, not-right}
+use Rattle.air.proofs.Places.{fitted-allowed}
 
--- what a G that 13 lets through has for whole millionths
-pub raised : (c : Choices) → Lawful c → (g : ℤ) → T (not (beyondFit g)) → IsPower T0 (wholeMillionths g) (c .power (natAbs (wholeMillionths g)))
+-- what a G that 13 lets through makes
+raised : (c : Choices) → Lawful c → (g : ℤ) → T (not (beyondFit g)) → Raised g (kelvinBy c g)
 raised c law (pos g) t =
     let h : g ≤ 19600000000 = omega (arith, ≤→ (ltZ-no {a = pos 19600000000} {b = pos g} (not-right (ltZ (pos g) (pos 0)) (ltZ (pos 19600000000) (pos g)) t))) in
-    law .power (g / 10000) (div-le-of-le-mul 10000 (omega arith))
+    record { kelvin = c .power (g / 10000); is = refl; power = law .power (g / 10000) (div-le-of-le-mul 10000 (omega arith)) }
 raised c law (negsuc g) t = absurd t
 
 module _ (c : Choices) (law : Lawful c) where
-  weighed : (k : Piece) (y z : ℤ) → Weighs tolerance k y z (weightWith (c .weight) k y z)
-  weighed (alone a) y z = refl
-  weighed (joint a b q) y z = law .weight _
-
-  weight-in : Region → Logs → ℤ
-  weight-in Refused l = pos 0
-  weight-in Perfect l = pos 0
-  weight-in (Fitted b i) l = weightWith (c .weight) (temperaturePiece b i) (l .y) (l .z)
-
-  kelvin-in : Region → Logs → ℕ
-  kelvin-in Refused l = 0
-  kelvin-in Perfect l = 0
-  kelvin-in (Fitted b i) l = kelvinBy c (edgeBy c (temperaturePiece b i) (l .y) (l .z) .fit)
-
-  fits-in : (r : Region) (l : Logs) → FitsIn r l (weight-in r l) (kelvin-in r l)
-  unfolding weight-in kelvin-in
-  fits-in Refused l = tt
-  fits-in Perfect l = tt
-  fits-in (Fitted b i) l =
-      let k : Piece = temperaturePiece b i in
-      record { weighed = weighed k (l .y) (l .z); raised = raised c law (fitOf k l (weightWith (c .weight) k (l .y) (l .z))) }
-
-  made : (r : Region) (p d : ℕ) (l : Logs) → temperatureAt c r p d l ≡ temperatureIn r p d l (weight-in r l) (kelvin-in r l)
-  unfolding fittedBy weight-in kelvin-in
-  made Refused p d l = refl
-  made Perfect p d l = refl
-  made (Fitted b i) p d l = refl
+  in-region : (r : Region) (p d : ℕ) (l : Logs) → IsTemperatureIn r p d l (temperatureAt c r p d l)
+  in-region Refused p d l = refl
+  in-region Perfect p d l = refl
+  in-region (Fitted b i) p d l = fitted-allowed c law temperatureRule (kelvinBy c) (raised c law) (temperatureStrip (l .y)) l
 
   log-in : (least most d n : ℕ) → T (leb least n && leb n most) → 0 < least → most < 2 ^ 64 → 0 < d → d < 2 ^ 64 → IsLog n d (c .log n d)
   log-in least most d n t a b e f =
@@ -83,11 +55,10 @@ module _ (c : Choices) (law : Lawful c) where
   temperature-logs p d a b = record { y = density-log d b; x = log-in 1 (10 ^ 17) P0 p a (lit< tt) (lit< tt) (lit< tt) (lit< tt); z = refl; triple = refl }
 
   is-temperature : (p d : ℕ) → T (isPressure p) → T (isDensity d) → IsTemperature p d (temperatureBy c p d (temperatureLogs c p d))
-  unfolding temperatureBy temperatureFrom
+  unfolding temperatureBy
   is-temperature p d a b =
       let l : Logs = temperatureLogs c p d in
-      let r : Region = regionOf (l .y) (l .z) in
-      record { logs = l; weight = weight-in r l; kelvin = kelvin-in r l; taken = temperature-logs p d a b; fits = fits-in r l; is = made r p d l }
+      record { logs = l; taken = temperature-logs p d a b; is = in-region (regionOf (l .y) (l .z)) p d l }
 
   pub entropy-logs : (e d : ℕ) → T (isEnergy e) → T (isDensity d) → EntropyLogs e d (entropyLogs c e d)
   entropy-logs e d a b = record { y = density-log d b; z = log-in 7840840 (10 ^ 12) E0 e a (lit< tt) (lit< tt) (lit< tt) (lit< tt); x = refl; triple = refl }

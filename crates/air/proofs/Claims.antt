@@ -1,17 +1,15 @@
 -- Every answer that document 01 allows for an accepted state meets demand 3's claims.
 use mathlib.Core.Bool.{Bool, true, false, cond, not}
 use mathlib.Core.Option.{Option, none, some}
-use mathlib.Core.Path.{_≡_, refl, sym, subst}
+use mathlib.Core.Path.{_≡_, refl, sym, ap, subst}
 use Prim.Native.Nat.{ℕ, suc, _≤_}
 use native.Mathlib.Omega.{arith}
 use lib.Dec.{T, leb, leb→le, le→leb, lit≤}
 use lib.IntN.{ℤ, pos, negsuc, negℤ, natAbs}
-use lib.Signed.{_≤ℤ_, _<ℤ_, leZ, ltZ, leZ-yes, ltZ-no, clashℤ}
+use lib.Signed.{_≤ℤ_, ltZ, leZ-yes, ltZ-no, clashℤ}
 use Rattle.logarithm.specs.Log.{IsLog}
 use Rattle.integer.specs.Z.{up, dn}
 use Rattle.logarithm.proofs.Range.{log-least, log-most}
-use Rattle.fit.specs.Fit.{Piece}
-use Rattle.tgas.specs.declared.Band.{Band}
 use Rattle.tgas.specs.Bands.{bandOf}
 use Rattle.tgas.specs.Temperature.{temperatureIndex}
 use Rattle.tgas.specs.declared.Region.{Region}
@@ -22,19 +20,18 @@ use Rattle.kind.specs.Kind.{kindOf}
 use Rattle.kind.specs.declared.Kind.{Kind}
 use Rattle.kind.specs.declared.Kind.the-variants.{Temperature, Entropy, Unknown}
 use Rattle.air.specs.declared.Logs.{Logs}
-use Rattle.fit.specs.declared.Edge.{Edge}
-use Rattle.air.specs.declared.Edges.{Edges}
-use Rattle.air.specs.declared.Edges.the-variants.{Unfitted, One}
+use Rattle.air.specs.declared.Edges.the-variants.{Unfitted}
 use Rattle.air.specs.declared.Ends.the-variants.{Unjoined}
 use Rattle.air.specs.declared.Answer.{Answer}
 use Rattle.air.specs.Quantities.{D0, E0, isDensity, isEnergy}
 use Rattle.air.specs.Held.{Held, held, refuses, judges, shows}
-use Rattle.air.specs.Temperature.{letterT, IsTemperature, TemperatureLogs, Fits, FitsIn, oneEdge, fromFit, fitOf, temperatureIn, temperatureFrom, beyondFit, pieceAt}
+use Rattle.air.specs.Places.{valueAt, IsFit}
+use Rattle.air.specs.Temperature.{letterT, temperatureRule, temperatureStrip, TemperatureLogs, IsTemperatureIn, IsTemperature}
 use Rattle.air.specs.Entropy.{letterS, IsEntropy, entropyIn, entropyOf, beyondEntropy}
-use Rattle.air.specs.Exact.{exactTemperatureFit}
-use Rattle.air.specs.Accurate.{FitClaim, TemperatureClaim, EntropyClaim}
-use Rattle.air.specs.State.{Property, temperatureProperty, entropyProperty, propertyOf, Either, IsHeld, IsAnswer, refusesLogs, NoEdgeRefused, one, AcceptedBy, AcceptedAny, Accepted, ClaimAny, Accurate}
+use Rattle.air.specs.Accurate.{fitDistance, KelvinClaim, TemperatureClaim, EntropyClaim}
+use Rattle.air.specs.State.{Property, temperatureProperty, entropyProperty, propertyOf, Either, IsHeld, IsAnswer, refusesLogs, AcceptedBy, AcceptedAny, Accepted, ClaimAny, Accurate}
 use Rattle.air.proofs.Tests.{and-left, and-right, not-right, no-true, is-false, is-true, over, abs-of}
+use Rattle.air.proofs.Places.{Measured, fitted-claim}
 use Rattle.air.proofs.Fit.{YRange, FittedBox, fit-near}
 use Rattle.air.proofs.Entropy.{entropy-near}
 use Rattle.air.proofs.Between.{temperature-between}
@@ -71,15 +68,12 @@ z-least e z t h =
     le-of-dn 999999 z (log-least e E0 1 z (omega arith) h)
 
 -- ---- temperature
-judged-by : {k : Property} {e : Edge} → NoEdgeRefused k (One e) → T (not (k .byFit e))
-judged-by (one t) = t
-
 module _ (n : ℕ) (n-least : 128 ≤ n) (p d : ℕ) (in-density : T (isDensity d)) (l : Logs) (taken : TemperatureLogs p d l) where
   perfect-claim : isPerfect (l .z) ≡ true → TemperatureClaim n p d (shows letterT l Unfitted Unjoined (pos (perfectGas p d)))
   perfect-claim e =
       record {
         logs = l;
-        kelvin = perfectGas p d;
+        value = pos (perfectGas p d);
         no-refusal = refl;
         letter = refl;
         carries = refl;
@@ -89,59 +83,49 @@ module _ (n : ℕ) (n-least : 128 ≤ n) (p d : ℕ) (in-density : T (isDensity 
         fitted = λ t. clashℤ {a = pos 250000} {b = l .z} t (leZ-yes (is-true e));
       }
 
-  fitted-claim : (w : ℤ) (t : ℕ) → beyondWindow (l .z) ≡ false → isPerfect (l .z) ≡ false
-      → Fits (pieceAt (l .y) (l .z)) l w t
-      → beyondFit (fitOf (pieceAt (l .y) (l .z)) l w) ≡ false
-      → TemperatureClaim n p d (shows letterT l (oneEdge (fitOf (pieceAt (l .y) (l .z)) l w) w) Unjoined (pos t))
-  fitted-claim w t e₁ e₂ fits e₃ =
-      let k : Piece = pieceAt (l .y) (l .z) in
+  measured : Measured fitDistance n temperatureRule KelvinClaim FittedBox
+  measured =
+      record {
+        near = fit-near n n-least;
+        claimed = λ f g v near it. record { kelvin = it .kelvin; is = it .is; between = temperature-between g f (it .kelvin) near (it .power) };
+      }
+
+  from-fit : (h : Held) → AcceptedBy temperatureProperty p d h → beyondWindow (l .z) ≡ false → isPerfect (l .z) ≡ false
+      → IsFit temperatureRule (temperatureStrip (l .y)) l h → TemperatureClaim n p d h
+  from-fit h ok e₁ e₂ it =
       let box : FittedBox (l .y) (l .z) =
       record {
         density = y-range d (l .y) in-density (taken .y);
         least = over 250000 (l .z) e₂;
         most = ltZ-no (not-right (ltZ (l .z) (negℤ (pos 1000000))) (ltZ (pos 3000000) (l .z)) (is-false e₁));
       } in
-      let close = fit-near n n-least (l .y) (l .z) w box (fits .weighed) in
+      let c = fitted-claim fitDistance n temperatureRule KelvinClaim FittedBox measured temperatureProperty (temperatureStrip (l .y)) l
+      (record { by-logs = λ t. tt; by-fit = λ e t. t }) box p d h ok it in
       record {
         logs = l;
-        kelvin = t;
-        no-refusal = refl;
-        letter = refl;
-        carries = refl;
-        shows = refl;
+        value = valueAt (temperatureStrip (l .y)) (c .point) (l .y);
+        no-refusal = ap (λ (x : Held). x .number) (c .is);
+        letter = ap (λ (x : Held). x .letter) (c .is);
+        carries = ap (λ (x : Held). x .logs) (c .is);
+        shows = ap (λ (x : Held). x .value) (c .is);
         taken = taken;
-        perfect = λ h. absurd (clashℤ {a = pos 250000} {b = l .z} (over 250000 (l .z) e₂) h);
-        fitted = λ h. record { edge = record { fit = fitOf k l w; weight = w }; carries = refl; near = close; between = temperature-between (fitOf k l w) (exactTemperatureFit n (l .y) (l .z)) t close (fits .raised (is-false e₃)) };
+        perfect = λ t. absurd (clashℤ {a = pos 250000} {b = l .z} (over 250000 (l .z) e₂) t);
+        fitted = λ t. c;
       }
 
-  from-fit : (w : ℤ) (t : ℕ) (h : Held) → NoEdgeRefused temperatureProperty (h .edges)
-      → beyondWindow (l .z) ≡ false → isPerfect (l .z) ≡ false → Fits (pieceAt (l .y) (l .z)) l w t
-      → h ≡ fromFit l (fitOf (pieceAt (l .y) (l .z)) l w) w t → TemperatureClaim n p d h
-  unfolding fromFit
-  from-fit w t h no-13 e₁ e₂ fits is = go (beyondFit g) refl is
-    where
-      g : ℤ
-      g = fitOf (pieceAt (l .y) (l .z)) l w
-
-      go : (b : Bool) → beyondFit g ≡ b → h ≡ cond b (judges 13 letterT l (oneEdge g w)) (shows letterT l (oneEdge g w) Unjoined (pos t)) → TemperatureClaim n p d h
-      go true e₃ s = absurd (no-true e₃ (judged-by (subst (λ (x : Held). NoEdgeRefused temperatureProperty (x .edges)) s no-13)))
-      go false e₃ s = subst (TemperatureClaim n p d) (sym s) (fitted-claim w t e₁ e₂ fits e₃)
-
-  from-logs : (w : ℤ) (t : ℕ) (h : Held) → T (not (refusesLogs temperatureProperty (h .logs))) → NoEdgeRefused temperatureProperty (h .edges)
-      → FitsIn (regionOf (l .y) (l .z)) l w t → h ≡ temperatureIn (regionOf (l .y) (l .z)) p d l w t → TemperatureClaim n p d h
-  from-logs w t h no-12 no-13 fits is = go (beyondWindow (l .z)) (isPerfect (l .z)) refl refl fits is
+  from-logs : (h : Held) → AcceptedBy temperatureProperty p d h → IsTemperatureIn (regionOf (l .y) (l .z)) p d l h → TemperatureClaim n p d h
+  from-logs h ok is = go (beyondWindow (l .z)) (isPerfect (l .z)) refl refl is
     where
       at : Bool → Bool → Region
       at a b = pickRegion a Refused (pickRegion b Perfect (Fitted (bandOf (l .y)) (temperatureIndex (bandOf (l .y)) (l .z))))
 
-      go : (a b : Bool) → beyondWindow (l .z) ≡ a → isPerfect (l .z) ≡ b → FitsIn (at a b) l w t → h ≡ temperatureIn (at a b) p d l w t → TemperatureClaim n p d h
-      go true b e₁ e₂ f s = absurd (no-true e₁ (subst (λ (x : Held). T (not (refusesLogs temperatureProperty (x .logs)))) s no-12))
-      go false true e₁ e₂ f s = subst (TemperatureClaim n p d) (sym s) (perfect-claim e₂)
-      go false false e₁ e₂ f s = from-fit w t h no-13 e₁ e₂ f s
+      go : (a b : Bool) → beyondWindow (l .z) ≡ a → isPerfect (l .z) ≡ b → IsTemperatureIn (at a b) p d l h → TemperatureClaim n p d h
+      go true b e₁ e₂ s = absurd (no-true e₁ (subst (λ (x : Held). T (not (refusesLogs temperatureProperty (x .logs)))) s (ok .no-12)))
+      go false true e₁ e₂ s = subst (TemperatureClaim n p d) (sym s) (perfect-claim e₂)
+      go false false e₁ e₂ s = from-fit h ok e₁ e₂ s
 
 temperature-claim : (n : ℕ) → 128 ≤ n → (p d : ℕ) (h : Held) → AcceptedBy temperatureProperty p d h → IsTemperature p d h → TemperatureClaim n p d h
-unfolding temperatureFrom
-temperature-claim n n-least p d h ok it = from-logs n n-least p d (ok .no-11) (it .logs) (it .taken) (it .weight) (it .kelvin) h (ok .no-12) (ok .no-13) (it .fits) (it .is)
+temperature-claim n n-least p d h ok it = from-logs n n-least p d (ok .no-11) (it .logs) (it .taken) h ok (it .is)
 
 -- ---- entropy
 entropy-claim : (e d : ℕ) (h : Held) → AcceptedBy entropyProperty e d h → IsEntropy e d h → EntropyClaim e d h

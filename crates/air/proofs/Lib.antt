@@ -1,4 +1,5 @@
 pub mod Tests
+pub mod Places
 pub mod Between
 pub mod Fit
 pub mod Entropy

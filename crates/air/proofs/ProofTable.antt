@@ -2,11 +2,12 @@
 use mathlib.Core.Bool.{Bool, true, false}
 use mathlib.Core.List.{List, [], _∷_}
 use mathlib.Core.Option.{some}
-use mathlib.Core.Path.{_≡_, refl, sym, ap, _∙_, subst}
+use mathlib.Core.Path.{_≡_, refl, ap, _∙_, subst}
 use Prim.Native.Nat.{ℕ, _*_, _^_}
 use lib.IntN.{ℤ, pos, _-ℤ_}
 use Rattle.fit.specs.Fit.{mul, gas1, gas2, gas3, gas4, bicubic}
 use Rattle.tgas.specs.Temperature.{temperaturePieces}
+use Rattle.tgas.specs.Region.{regionOf}
 use Rattle.tgas.specs.Entropy.{entropyCoefficients}
 use Rattle.logarithm.specs.Log.{IsLog}
 use Rattle.logarithm.proofs.Exact.{exact-power}
@@ -15,7 +16,7 @@ use Rattle.air.specs.declared.Answer.{Answer}
 use Rattle.air.specs.declared.Logs.{Logs}
 use Rattle.air.specs.Quantities.{P0, D0, E0}
 use Rattle.air.specs.Held.{Held, held}
-use Rattle.air.specs.Temperature.{IsTemperature, temperatureFrom}
+use Rattle.air.specs.Temperature.{IsTemperatureIn, IsTemperature}
 use Rattle.air.specs.Entropy.{IsEntropy, entropyIn, entropyFrom, entropyAt, perfectEntropy, fittedEntropy}
 use Rattle.air.specs.State.{IsAnswer}
 use Rattle.air.specs.ProofTable.{proofTable, AllHold}
@@ -34,22 +35,21 @@ entropy-row k v h t e =
     let same = logs-are false (k * 1000000) (t .logs) (t .taken .triple) (y-is (t .logs .y) (t .taken .y)) (exact-power E0 k (t .logs .z) (t .taken .z)) (t .taken .x) in
     ap (λ (g : Held). g .value) (t .is) ∙ ap (λ (l : Logs). entropyFrom l .value) same ∙ e
 
-temperature-row : (v : ℤ) (h : Held) → IsTemperature P0 D0 h
-    → ((w : ℤ) (t : ℕ) → temperatureFrom P0 D0 (record { triple = true; x = pos 0; y = pos 0; z = pos 0 }) w t .value ≡ some v) → h .value ≡ some v
-temperature-row v h t e =
+temperature-row : (h : Held) → IsTemperature P0 D0 h → h .value ≡ some (pos (perfectGas P0 D0))
+temperature-row h t =
     let x = exact-power P0 0 (t .logs .x) (t .taken .x) in
     let y = y-is (t .logs .y) (t .taken .y) in
     let z : t .logs .z ≡ pos 0 = t .taken .z ∙ (λ i. x i -ℤ y i) in
     let same = logs-are true 0 (t .logs) (t .taken .triple) y z x in
-    ap (λ (g : Held). g .value) (t .is) ∙ ap (λ (l : Logs). temperatureFrom P0 D0 l (t .weight) (t .kelvin) .value) same ∙ e (t .weight) (t .kelvin)
+    ap (λ (g : Held). g .value) (subst (λ (l : Logs). IsTemperatureIn (regionOf (l .y) (l .z)) P0 D0 l h) same (t .is))
 
 e-row : (a : Answer) → IsAnswer 2 784084000 D0 a → held a .value ≡ some (pos 77879435)
 unfolding IsAnswer entropyIn entropyAt perfectEntropy fittedEntropy bicubic gas1 gas2 gas3 gas4 mul entropyCoefficients
 e-row a h = entropy-row 1 (pos 77879435) (held a) h refl
 
 t-row : (a : Answer) → IsAnswer 1 P0 D0 a → held a .value ≡ some (pos 273213936)
-unfolding IsAnswer temperatureFrom perfectGas
-t-row a h = temperature-row (pos 273213936) (held a) h (λ w t. refl)
+unfolding IsAnswer perfectGas
+t-row a h = temperature-row (held a) h
 
 s-row : (a : Answer) → IsAnswer 2 E0 D0 a → held a .value ≡ some (pos 61182203)
 unfolding IsAnswer entropyIn entropyAt perfectEntropy fittedEntropy

@@ -25,6 +25,10 @@ pub not-right : (a b : Bool) → T (not (a || b)) → T (not b)
 not-right true b t = absurd t
 not-right false b t = t
 
+pub not-both : (a b : Bool) → T (not a) → T (not b) → T (not (a || b))
+not-both true b t u = t
+not-both false b t u = u
+
 pub no-true : {b : Bool} → b ≡ true → T (not b) → ⊥
 no-true {b} e t = subst (λ (c : Bool). T (not c)) e t
 

@@ -9,13 +9,12 @@ use Rattle.fraction.specs.Fraction.{Fraction, Within, over, floor}
 use Rattle.fraction.specs.Tens.{Above, Below}
 use Rattle.perfect.specs.Perfect.{perfectGas}
 use Rattle.air.specs.declared.Logs.{Logs}
-use Rattle.fit.specs.declared.Edge.{Edge}
-use Rattle.air.specs.declared.Edges.the-variants.{One}
 use Rattle.air.specs.Quantities.{T0}
 use Rattle.air.specs.Held.{Held}
-use Rattle.air.specs.Temperature.{letterT, TemperatureLogs}
+use Rattle.air.specs.Places.{FitClaim}
+use Rattle.air.specs.Temperature.{letterT, temperatureRule, temperatureStrip, TemperatureLogs}
 use Rattle.air.specs.Entropy.{letterS, EntropyLogs}
-use Rattle.air.specs.Exact.{exactTemperatureFit, exactEntropy}
+use Rattle.air.specs.Exact.{exactEntropy}
 
 -- how far a fitted temperature's exponent may be from the exact fit, in units of 10^-10
 abbrev pub fitDistance : ℕ
@@ -34,24 +33,23 @@ pub record Between (k : ℤ) (t : ℕ) : Type 0 where
   pub above : Above (k -ℤ pos 2) 1000000 t T0
   pub below : Below (k +ℤ pos 3) 1000000 t T0
 
--- a fitted temperature: its carried exponent beside the exact fit, and its value
-pub record FitClaim (n : ℕ) (l : Logs) (h : Held) (t : ℕ) : Type 0 where
-  pub edge : Edge
-  pub carries : h .edges ≡ One edge
-  pub near : Within fitDistance (edge .fit) (exactTemperatureFit n (l .y) (l .z))
-  pub between : Between (exactMillionths (exactTemperatureFit n (l .y) (l .z))) t
+-- a temperature of the exact fit f
+pub record KelvinClaim (f : Fraction) (g v : ℤ) : Type 0 where
+  pub kelvin : ℕ
+  pub is : v ≡ pos kelvin
+  pub between : Between (exactMillionths f) kelvin
 
 -- a temperature is fitted where its carried Z is above 250,000
 pub record TemperatureClaim (n p d : ℕ) (h : Held) : Type 0 where
   pub logs : Logs
-  pub kelvin : ℕ
+  pub value : ℤ
   pub no-refusal : h .number ≡ 0
   pub letter : h .letter ≡ letterT
   pub carries : h .logs ≡ some logs
-  pub shows : h .value ≡ some (pos kelvin)
+  pub shows : h .value ≡ some value
   pub taken : TemperatureLogs p d logs
-  pub perfect : (logs .z) ≤ℤ pos 250000 → kelvin ≡ perfectGas p d
-  pub fitted : pos 250000 <ℤ (logs .z) → FitClaim n logs h kelvin
+  pub perfect : (logs .z) ≤ℤ pos 250000 → value ≡ pos (perfectGas p d)
+  pub fitted : pos 250000 <ℤ (logs .z) → FitClaim fitDistance n temperatureRule KelvinClaim (temperatureStrip (logs .y)) logs h
 
 pub record EntropyClaim (e d : ℕ) (h : Held) : Type 0 where
   pub logs : Logs

@@ -1,10 +1,11 @@
 pub mod Quantities
 pub mod Held
 pub mod Join
+pub mod Choices
+pub mod Places
 pub mod Temperature
 pub mod Entropy
 pub mod Exact
 pub mod Accurate
-pub mod Choices
 pub mod State
 pub mod ProofTable

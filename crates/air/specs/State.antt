@@ -5,10 +5,6 @@ use mathlib.Core.Path.{_≡_}
 use Prim.Native.Nat.{ℕ}
 use lib.Dec.{T}
 use lib.IntN.{ℤ, pos, natAbs, _-ℤ_}
-use lib.Signed.{ltZ}
-use Rattle.fit.specs.Fit.{Piece}
-use Rattle.fit.specs.Edge.{edgeWith}
-use Rattle.tgas.specs.Temperature.{temperaturePiece}
 use Rattle.tgas.specs.declared.Region.{Region}
 use Rattle.tgas.specs.declared.Region.the-variants.{Refused, Perfect, Fitted}
 use Rattle.tgas.specs.Region.{regionOf, beyondWindow}
@@ -24,7 +20,8 @@ use Rattle.air.specs.Quantities.{P0, D0, E0, isPressure, isDensity, isEn
 use Rattle.perfect.specs.Perfect.{perfectGas}
 use Rattle.air.specs.declared.Ends.the-variants.{Unjoined}
 use Rattle.air.specs.Held.{Held, held, refuses, judges, shows}
-use Rattle.air.specs.Temperature.{letterT, IsTemperature, beyondFit, wholeMillionths, fromFit}
+use Rattle.air.specs.Places.{fittedBy}
+use Rattle.air.specs.Temperature.{letterT, IsTemperature, beyondFit, wholeMillionths, temperatureRule, temperatureStrip}
 use Rattle.air.specs.Entropy.{IsEntropy, beyondEntropy, entropyFrom}
 use Rattle.air.specs.Accurate.{TemperatureClaim, EntropyClaim}
 use Rattle.air.specs.Choices.{Choices}
@@ -46,21 +43,14 @@ pub record Property : Type 1 where
 abbrev pub temperatureLogs : Choices → ℕ → ℕ → Logs
 temperatureLogs c p d = record { triple = true; x = c .log p P0; y = c .log d D0; z = c .log p P0 -ℤ c .log d D0 }
 
--- a piece's fit, and the temperature that its G makes
-abbrev pub edgeBy : Choices → Piece → ℤ → ℤ → Edge
-edgeBy c k y z = edgeWith (c .weight) k y z
-
-abbrev pub kelvinBy : Choices → ℤ → ℕ
-kelvinBy c g = c .power (natAbs (wholeMillionths g))
-
--- a piece's answer
-unfoldable pub fittedBy : Choices → Piece → Logs → Held
-fittedBy c k l = let e : Edge = edgeBy c k (l .y) (l .z) in fromFit l (e .fit) (e .weight) (kelvinBy c (e .fit))
+-- the temperature that a G makes
+abbrev pub kelvinBy : Choices → ℤ → ℤ
+kelvinBy c g = pos (c .power (natAbs (wholeMillionths g)))
 
 abbrev pub temperatureAt : Choices → Region → ℕ → ℕ → Logs → Held
 temperatureAt c Refused p d l = judges 12 letterT l Unfitted
 temperatureAt c Perfect p d l = shows letterT l Unfitted Unjoined (pos (perfectGas p d))
-temperatureAt c (Fitted b i) p d l = fittedBy c (temperaturePiece b i) l
+temperatureAt c (Fitted b i) p d l = fittedBy c temperatureRule (kelvinBy c) (temperatureStrip (l .y)) l
 
 unfoldable pub temperatureBy : Choices → ℕ → ℕ → Logs → Held
 temperatureBy c p d l = temperatureAt c (regionOf (l .y) (l .z)) p d l

@@ -1,14 +1,14 @@
 -- Document 01, Temperature: what an answer for a pressure and a density holds.
-use mathlib.Core.Bool.{Bool, true, false, cond, not, _||_}
+use mathlib.Core.Bool.{Bool, true, false, _||_}
 use mathlib.Core.Path.{_≡_}
 use Prim.Native.Nat.{ℕ}
-use lib.Dec.{T}
 use lib.IntN.{ℤ, pos, _-ℤ_}
 use lib.Signed.{ltZ, shrZ}
 use Rattle.logarithm.specs.Log.{IsLog}
 use Rattle.power.specs.Power.{IsPower}
-use Rattle.weight.specs.Weight.{tolerance}
-use Rattle.fit.specs.Fit.{Piece, Weighs, fitted}
+use Rattle.fit.specs.Fit.{Piece}
+use Rattle.tgas.specs.declared.Strip.{Strip}
+use Rattle.tgas.specs.declared.Strip.the-variants.{Clear}
 use Rattle.tgas.specs.Bands.{bandOf}
 use Rattle.tgas.specs.Temperature.{temperatureIndex, temperaturePiece}
 use Rattle.tgas.specs.declared.Region.{Region}
@@ -16,11 +16,11 @@ use Rattle.tgas.specs.declared.Region.the-variants.{Refused, Perfect, Fitted}
 use Rattle.tgas.specs.Region.{regionOf}
 use Rattle.perfect.specs.Perfect.{perfectGas}
 use Rattle.air.specs.declared.Logs.{Logs}
-use Rattle.air.specs.declared.Edges.{Edges}
-use Rattle.air.specs.declared.Edges.the-variants.{Unfitted, One}
+use Rattle.air.specs.declared.Edges.the-variants.{Unfitted}
 use Rattle.air.specs.declared.Ends.the-variants.{Unjoined}
 use Rattle.air.specs.Quantities.{P0, D0, T0}
 use Rattle.air.specs.Held.{Held, judges, shows}
+use Rattle.air.specs.Places.{Rule, IsFit}
 
 -- the fitted piece that Y and Z choose
 abbrev pub pieceAt : ℤ → ℤ → Piece
@@ -38,26 +38,28 @@ beyondFit g = ltZ g (pos 0) || ltZ (pos 19600000000) g
 abbrev pub wholeMillionths : ℤ → ℤ
 wholeMillionths g = shrZ g 10000
 
--- the one fit of a G and a W
-abbrev pub oneEdge : ℤ → ℤ → Edges
-oneEdge g w = One (record { fit = g; weight = w })
+-- free answer three: v is a temperature of G
+pub record Raised (g v : ℤ) : Type 0 where
+  pub kelvin : ℕ
+  pub is : v ≡ pos kelvin
+  pub power : IsPower T0 (wholeMillionths g) kelvin
 
--- what a fit makes: 13 with the G and W it was judged by, or the temperature t
-unfoldable pub fromFit : Logs → ℤ → ℤ → ℕ → Held
-fromFit l g w t = cond (beyondFit g) (judges 13 letterT l (oneEdge g w)) (shows letterT l (oneEdge g w) Unjoined (pos t))
+-- 12 and the perfect gas are told apart by Z before any piece
+abbrev pub temperatureRule : Rule
+temperatureRule =
+    record {
+      letter = letterT;
+      pieceAt = pieceAt;
+      beyondLogs = λ y z. false;
+      logsNumber = 12;
+      beyondFit = beyondFit;
+      fitNumber = 13;
+      IsValue = Raised;
+    }
 
--- G of a piece k with a weight w
-abbrev pub fitOf : Piece → Logs → ℤ → ℤ
-fitOf k l w = fitted k (l .y) (l .z) w
-
--- the steps in order, from the free answers: logarithms l, and for a piece its weight w and the temperature t
-abbrev pub temperatureIn : Region → ℕ → ℕ → Logs → ℤ → ℕ → Held
-temperatureIn Refused p d l w t = judges 12 letterT l Unfitted
-temperatureIn Perfect p d l w t = shows letterT l Unfitted Unjoined (pos (perfectGas p d))
-temperatureIn (Fitted b i) p d l w t = fromFit l (fitOf (temperaturePiece b i) l w) w t
-
-unfoldable pub temperatureFrom : ℕ → ℕ → Logs → ℤ → ℕ → Held
-temperatureFrom p d l w t = temperatureIn (regionOf (l .y) (l .z)) p d l w t
+-- document 01: temperature has no join between bands
+abbrev pub temperatureStrip : ℤ → Strip
+temperatureStrip y = Clear
 
 -- Y of the density, X of the pressure, Z their difference
 pub record TemperatureLogs (p d : ℕ) (l : Logs) : Type 0 where
@@ -66,21 +68,14 @@ pub record TemperatureLogs (p d : ℕ) (l : Logs) : Type 0 where
   pub z : l .z ≡ l .x -ℤ l .y
   pub triple : l .triple ≡ true
 
--- free answers two and three, where a piece asks for them
-pub record Fits (k : Piece) (l : Logs) (w : ℤ) (t : ℕ) : Type 0 where
-  pub weighed : Weighs tolerance k (l .y) (l .z) w
-  pub raised : T (not (beyondFit (fitOf k l w))) → IsPower T0 (wholeMillionths (fitOf k l w)) t
+-- what may be held in a region: 12, the perfect gas, or the fit at its places
+abbrev pub IsTemperatureIn : Region → ℕ → ℕ → Logs → Held → Type 0
+IsTemperatureIn Refused p d l h = h ≡ judges 12 letterT l Unfitted
+IsTemperatureIn Perfect p d l h = h ≡ shows letterT l Unfitted Unjoined (pos (perfectGas p d))
+IsTemperatureIn (Fitted b i) p d l h = IsFit temperatureRule (temperatureStrip (l .y)) l h
 
-abbrev pub FitsIn : Region → Logs → ℤ → ℕ → Type 0
-FitsIn Refused l w t = Unit
-FitsIn Perfect l w t = Unit
-FitsIn (Fitted b i) l w t = Fits (temperaturePiece b i) l w t
-
--- what may be held for a pressure and a density in range: free are the two logarithms, the weight and the temperature
+-- what may be held for a pressure and a density in range: free are the two logarithms, and the weights and temperatures of a fit
 pub record IsTemperature (p d : ℕ) (h : Held) : Type 0 where
   pub logs : Logs
-  pub weight : ℤ
-  pub kelvin : ℕ
   pub taken : TemperatureLogs p d logs
-  pub fits : FitsIn (regionOf (logs .y) (logs .z)) logs weight kelvin
-  pub is : h ≡ temperatureFrom p d logs weight kelvin
+  pub is : IsTemperatureIn (regionOf (logs .y) (logs .z)) p d logs h

@@ -7,7 +7,7 @@ use native.Mathlib.Nat.{le-trans, le-of-lt, mul-le-mul-left}
 use native.Mathlib.Omega.{arith}
 use lib.Dec.{T, le→leb, lit≤}
 use lib.IntN.{ℤ, pos, negsuc, natAbs, _-ℤ_, _*ℤ_}
-use lib.Signed.{_≤ℤ_, _<ℤ_, ltZ, shrZ}
+use lib.Signed.{_≤ℤ_, _<ℤ_, shrZ}
 use lib.Ieee.{binary64, inFloat}
 use Rattle.integer.specs.Z.{up, dn, zs, v, ≤→, <→, →≤, ≡-by}
 use Rattle.integer.specs.Laws.{abs-+, abs--, abs-*}
@@ -23,7 +23,6 @@ use Rattle.tgas.specs.declared.Strip.the-variants.{Clear}
 use Rattle.tgas.specs.declared.Strip.the-variants as strip
 use Rattle.tgas.specs.Bands.{stripOf}
 use Rattle.tgas.specs.Region.{regionOf}
-use Rattle.tgas.specs.Temperature.{temperaturePiece}
 use Rattle.tgas.proofs.Regions.{perfect-region}
 use Rattle.perfect.proofs.Quotient.{perfect-small}
 use Rattle.kind.specs.declared.Kind.{Kind}
@@ -34,17 +33,18 @@ use Rattle.air.specs.declared.Edges.the-variants.{Unfitted}
 use Rattle.air.specs.declared.Ends.the-variants.{Unjoined}
 use Rattle.air.specs.Quantities.{isPressure, isDensity, isEnergy}
 use Rattle.air.specs.Held.{Held, judges, shows}
-use Rattle.air.specs.Temperature.{letterT, beyondFit, oneEdge, fromFit}
+use Rattle.air.specs.Places.{Rule, Point, edgesAt, valueAt, showsAt, heldAt, pointBy}
+use Rattle.air.specs.Temperature.{beyondFit, temperatureRule, temperatureStrip}
 use Rattle.air.specs.Entropy.{letterS, entropyAt, aboveLimit, entropyIn}
 use Rattle.air.specs.Join.{joined, anyPlace}
 use Rattle.air.specs.Choices.{chosen}
-use Rattle.air.specs.State.{propertyOf, heldBy, answerBy, ranged, edgeBy, kelvinBy, fittedBy, temperatureAt, temperatureBy, temperatureLogs, entropyLogs}
+use Rattle.air.specs.State.{propertyOf, heldBy, answerBy, ranged, kelvinBy, temperatureAt, temperatureBy, temperatureLogs, entropyLogs}
 use Rattle.air.proofs.Fit.{YRange}
 use Rattle.air.proofs.Claims.{y-range}
 use Rattle.air.proofs.Allowed.{lawful, temperature-logs, entropy-logs}
 use Rattle.air.proofs.Sizes.{entropy-most}
 use Rattle.temperature.specs.Ready.{TemperatureReady}
-use Rattle.temperature.proofs.Laws.{or-left, or-right, passes, kelvin-range, dividable}
+use Rattle.temperature.proofs.Laws.{passes, kelvin-range, dividable}
 use Rattle.entropy.specs.Ready.{PlaceReady}
 use Rattle.entropy.proofs.Laws.{strip-ready, place-ready}
 use Rattle.mark.specs.Mark.{Drawable, DrawableFrom}
@@ -63,19 +63,26 @@ in-float (negsuc n) h = le→leb (suc n) (2 ^ 53) h
 draws : {y z : ℤ} → YRange y → natAbs z ≤ 2 ^ 53 → Drawable y z
 draws {y} {z} r h = record { least = r .least; most = r .most; value = in-float z h }
 
--- ---- temperature
-fit-shown : (l : Logs) (g w : ℤ) → YRange (l .y) → Shown (fromFit l g w (kelvinBy chosen g))
-unfolding fromFit
-fit-shown l g w r = go (beyondFit g) refl
+-- ---- a fit at its places
+places-shown : (r : Rule) (s : Strip) (l : Logs) (q : ℤ → Point) → YRange (l .y)
+    → (anyPlace s (λ v. r .beyondFit (q v .edge .fit)) (l .y) ≡ false → natAbs (valueAt s q (l .y)) ≤ 2 ^ 53) → Shown (heldAt r s l q)
+unfolding heldAt
+places-shown r s l q y-in small = go (anyPlace s (λ v. r .beyondLogs v (l .z)) (l .y)) (anyPlace s (λ v. r .beyondFit (q v .edge .fit)) (l .y)) refl
   where
-    go : (b : Bool) → beyondFit g ≡ b → Shown (cond b (judges 13 letterT l (oneEdge g w)) (shows letterT l (oneEdge g w) Unjoined (pos (kelvinBy chosen g))))
-    go true e = tt
-    go false e =
-        let p = passes g (or-left (ltZ g (pos 0)) (ltZ (pos 19600000000) g) e) (or-right (ltZ g (pos 0)) (ltZ (pos 19600000000) g) e) in
-        draws r (subst (λ (n : ℕ). powerOf n ≤ 2 ^ 53) (sym (p .millionths)) (le-of-lt (power-small (natAbs g / 10000) (kelvin-range g p))))
+    go : (a b : Bool) → anyPlace s (λ v. r .beyondFit (q v .edge .fit)) (l .y) ≡ b
+        → Shown (cond a (judges (r .logsNumber) (r .letter) l Unfitted) (cond b (judges (r .fitNumber) (r .letter) l (edgesAt s q (l .y))) (showsAt r s l q)))
+    go true b e = tt
+    go false true e = tt
+    go false false e = draws y-in (small e)
+
+-- ---- temperature
+kelvin-most : (g : ℤ) → beyondFit g ≡ false → natAbs (kelvinBy chosen g) ≤ 2 ^ 53
+kelvin-most g e =
+    let p = passes g e in
+    subst (λ (n : ℕ). powerOf n ≤ 2 ^ 53) (sym (p .millionths)) (le-of-lt (power-small (natAbs g / 10000) (kelvin-range g p)))
 
 temperature-shown : (p d : ℕ) (l : Logs) → TemperatureReady p d l → Shown (temperatureBy chosen p d l)
-unfolding temperatureBy fittedBy
+unfolding temperatureBy
 temperature-shown p d l h = go (regionOf (l .y) (l .z)) refl
   where
     r : YRange (l .y)
@@ -84,7 +91,9 @@ temperature-shown p d l h = go (regionOf (l .y) (l .z)) refl
     go : (x : Region) → regionOf (l .y) (l .z) ≡ x → Shown (temperatureAt chosen x p d l)
     go Refused e = tt
     go Perfect e = draws r (le-trans (perfect-small p d (dividable p d l h (perfect-region (l .y) (l .z) e))) (lit≤ tt))
-    go (Fitted b i) e = let g = edgeBy chosen (temperaturePiece b i) (l .y) (l .z) in fit-shown l (g .fit) (g .weight) r
+    go (Fitted b i) e =
+        let q = pointBy chosen temperatureRule (kelvinBy chosen) (l .z) in
+        places-shown temperatureRule (temperatureStrip (l .y)) l q r (kelvin-most (q (l .y) .edge .fit))
 
 -- ---- entropy
 -- a place between the edges is no farther from the lower than the upper is

@@ -9,17 +9,22 @@ use Rattle.air.specs.declared.Answer.{Answer}
 use Rattle.air.specs.declared.Answer.the-variants.{Judged, Shows}
 use Rattle.air.specs.declared.Answer.the-variants as a
 use Rattle.air.specs.declared.Logs.{Logs}
-use Rattle.air.specs.Held.{Held, held, refuses}
+use Rattle.air.specs.declared.Edges.{Edges}
+use Rattle.air.specs.declared.Ends.{Ends}
+use Rattle.air.specs.Held.{Held, held, refuses, judges, shows}
 use Rattle.air.specs.Quantities.{isPressure, isDensity, isEnergy}
 use Rattle.air.specs.Choices.{Choices, Lawful}
-use Rattle.air.specs.Temperature.{fromFit, beyondFit}
+use Rattle.air.specs.Join.{anyPlace}
+use Rattle.air.specs.Places.{Rule, Point, heldAt, pointBy}
+use Rattle.air.specs.Temperature.{temperatureRule, temperatureStrip}
 use Rattle.air.specs.Entropy.{entropyIn, entropyFrom, beyondEntropy}
-use Rattle.air.specs.State.{temperatureLogs, entropyLogs, fittedBy, temperatureAt, temperatureBy, propertyOf, ranged, heldBy, answerBy}
+use Rattle.air.specs.State.{temperatureLogs, entropyLogs, kelvinBy, temperatureAt, temperatureBy, propertyOf, ranged, heldBy, answerBy}
 use Rattle.kind.specs.declared.Kind.{Kind}
 use Rattle.kind.specs.declared.Kind.the-variants.{Temperature, Entropy, Unknown}
 use Rattle.kind.specs.Kind.{kindOf}
 use Rattle.sheet.specs.declared.Lookup.{Lookup}
 use Rattle.sheet.specs.declared.Lookup.the-variants.{Hit, Miss}
+use Rattle.tgas.specs.declared.Strip.{Strip}
 use Rattle.tgas.specs.declared.Region.{Region}
 use Rattle.tgas.specs.declared.Region.the-variants as r
 use Rattle.tgas.specs.Region.{regionOf}
@@ -45,21 +50,26 @@ in-range n true true p = p
 in-range n true false p = refusal n
 in-range n false second p = refusal 10
 
--- a fit shows a value or is judged
-fit : (l : Logs) (g w : ℤ) (t : ℕ) → Holder (fromFit l g w t)
-unfolding fromFit
-fit l g w t = either (beyondFit g) (record { answer = Judged _ _ _ _; holds = refl }) (record { answer = Shows _ _ _ _ _; holds = refl })
+judged : {n k : ℕ} {l : Logs} {e : Edges} → Holder (judges n k l e)
+judged = record { answer = Judged _ _ _ _; holds = refl }
+
+shown : {k : ℕ} {l : Logs} {e : Edges} {s : Ends} {v : ℤ} → Holder (shows k l e s v)
+shown = record { answer = Shows _ _ _ _ _; holds = refl }
+
+-- a fit shows a value or is judged, by the logarithms or by the fit
+fit : (r : Rule) (s : Strip) (l : Logs) (q : ℤ → Point) → Holder (heldAt r s l q)
+unfolding heldAt
+fit r s l q = either (anyPlace s (λ v. r .beyondLogs v (l .z)) (l .y)) judged (either (anyPlace s (λ v. r .beyondFit (q v .edge .fit)) (l .y)) judged shown)
 
 entropy : (l : Logs) → Holder (entropyFrom l)
 unfolding entropyIn
-entropy l = either (beyondEntropy l) (record { answer = Judged _ _ _ _; holds = refl }) (record { answer = Shows _ _ _ _ _; holds = refl })
+entropy l = either (beyondEntropy l) judged shown
 
 module _ (c : Choices) where
   temperature : (g : Region) (p d : ℕ) (l : Logs) → Holder (temperatureAt c g p d l)
-  unfolding fittedBy
-  temperature r.Refused p d l = record { answer = Judged _ _ _ _; holds = refl }
-  temperature r.Perfect p d l = record { answer = Shows _ _ _ _ _; holds = refl }
-  temperature (r.Fitted b i) p d l = fit l _ _ _
+  temperature r.Refused p d l = judged
+  temperature r.Perfect p d l = shown
+  temperature (r.Fitted b i) p d l = fit temperatureRule (temperatureStrip (l .y)) l (pointBy c temperatureRule (kelvinBy c) (l .z))
 
   state : (k : Kind) (v w : ℕ) → Holder (heldBy c (propertyOf k) v w)
   unfolding temperatureBy

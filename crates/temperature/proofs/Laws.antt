@@ -1,30 +1,23 @@
 -- What the steps of a temperature's answer amount to, over the definitions.
 use mathlib.Core.Bool.{Bool, true, false, true≢false, _||_}
-use mathlib.Core.Path.{_≡_, refl, sym, ap, _∙_, subst}
-use Prim.Native.Nat.{ℕ, _+_, _*_, _/_, _^_, _≤_, _<_}
+use mathlib.Core.Path.{_≡_, refl, subst}
+use Prim.Native.Nat.{ℕ, _/_, _≤_}
 use native.Mathlib.Nat.{div-le-of-le-mul}
 use native.Mathlib.Omega.{arith}
 use lib.Dec.{T}
 use lib.IntN.{ℤ, pos, negsuc, natAbs}
 use lib.Signed.{_≤ℤ_, ltZ, shrZ, nonNeg}
-use mir.Syntax.{w64}
-use mir.Val.{Fits}
 use Rattle.integer.specs.Z.{≤→}
 use Rattle.integer.specs.Tests.{test-le, test-not-lt}
 use Rattle.integer.specs.Laws.{≤ℤ-trans}
-use Rattle.power.specs.Choice.{powerOf}
 use Rattle.logarithm.proofs.Quotient.{ratio-small}
 use Rattle.tgas.specs.Region.{beyondWindow}
 use Rattle.tgas.proofs.Regions.{IsPerfect}
 use Rattle.perfect.specs.Perfect.{Dividable}
 use Rattle.air.specs.declared.Logs.{Logs}
-use Rattle.air.specs.declared.Ends.the-variants.{Unjoined}
-use Rattle.air.specs.Quantities.{P0, D0, isDensity}
-use Rattle.air.specs.Held.{Held, judges, shows}
-use Rattle.air.specs.Temperature.{letterT, oneEdge, beyondFit, fromFit, TemperatureLogs}
-use Rattle.air.specs.Choices.{chosen}
-use Rattle.air.specs.State.{kelvinBy}
-use Rattle.air.proofs.Tests.{and-left, and-right, not-left, not-right, is-false, abs-of}
+use Rattle.air.specs.Quantities.{P0, D0}
+use Rattle.air.specs.Temperature.{beyondFit}
+use Rattle.air.proofs.Tests.{and-left, and-right, abs-of}
 use Rattle.temperature.specs.Ready.{TemperatureReady}
 
 -- ---- a test of two parts that is false
@@ -42,27 +35,12 @@ pub record Passes (g : ℤ) : Type 0 where
   pub most : natAbs g ≤ 19600000000
   pub millionths : natAbs (shrZ g 10000) ≡ natAbs g / 10000
 
-pub passes : (g : ℤ) → ltZ g (pos 0) ≡ false → ltZ (pos 19600000000) g ≡ false → Passes g
-passes (pos n) a b = record { plain = tt; most = omega (arith, ≤→ (test-not-lt {a = pos 19600000000} {b = pos n} b)); millionths = refl }
-passes (negsuc n) a b = absurd (true≢false a)
+pub passes : (g : ℤ) → beyondFit g ≡ false → Passes g
+passes (pos n) e = record { plain = tt; most = omega (arith, ≤→ (test-not-lt {a = pos 19600000000} {b = pos n} (or-right (ltZ (pos n) (pos 0)) (ltZ (pos 19600000000) (pos n)) e))); millionths = refl }
+passes (negsuc n) e = absurd (true≢false e)
 
 pub kelvin-range : (g : ℤ) → Passes g → natAbs g / 10000 ≤ 1960000
 kelvin-range g h = div-le-of-le-mul 10000 (omega (arith, h .most))
-
-module _ (l : Logs) (g w : ℤ) where
-  pub too-low : (t : ℕ) → ltZ g (pos 0) ≡ true → judges 13 letterT l (oneEdge g w) ≡ fromFit l g w t
-  unfolding fromFit
-  too-low t a = simp a
-
-  pub too-high : (t : ℕ) → ltZ g (pos 0) ≡ false → ltZ (pos 19600000000) g ≡ true → judges 13 letterT l (oneEdge g w) ≡ fromFit l g w t
-  unfolding fromFit
-  too-high t a b = simp (a, b)
-
-  pub shown : (t : ℕ) → ltZ g (pos 0) ≡ false → ltZ (pos 19600000000) g ≡ false → t ≡ powerOf (natAbs g / 10000)
-      → shows letterT l (oneEdge g w) Unjoined (pos t) ≡ fromFit l g w (kelvinBy chosen g)
-  unfolding fromFit
-  shown t a b e =
-      ap (λ (n : ℕ). shows letterT l (oneEdge g w) Unjoined (pos n)) (e ∙ ap powerOf (sym (passes g a b .millionths))) ∙ simp (a, b)
 
 -- ---- from the logarithms
 pub window-most : (z : ℤ) → beyondWindow z ≡ false → natAbs z ≤ 3000000

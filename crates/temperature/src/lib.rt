@@ -6,13 +6,16 @@ use air::Logs;
 use fit::Edge;
 use tgas::Band;
 use tgas::Region;
+ghost use mathlib.Core.Bool.{false};
 ghost use mathlib.Core.Path.{_≡_};
 ghost use mathlib.Core.Option.{some};
+ghost use Rattle.tgas.specs.declared.Strip.the-variants.{Clear};
 ghost use Rattle.tgas.specs.Temperature.{temperaturePiece};
 ghost use Rattle.air.specs.Held.{held, judges};
-ghost use Rattle.air.specs.Temperature.{letterT, oneEdge, fromFit};
+ghost use Rattle.air.specs.Places.{heldAt, pointOf, edgeBy};
+ghost use Rattle.air.specs.Temperature.{letterT, beyondFit, temperatureRule};
 ghost use Rattle.air.specs.Choices.{chosen};
-ghost use Rattle.air.specs.State.{edgeBy, kelvinBy, fittedBy, temperatureBy, temperatureProperty, heldBy};
+ghost use Rattle.air.specs.State.{kelvinBy, temperatureBy, temperatureProperty, heldBy};
 ghost use Rattle.temperature.specs.Ready.{PieceReady, TemperatureReady};
 
 // The fit of a band's i-th piece at Y and Z.
@@ -23,45 +26,51 @@ fn fit_at(band: Band, i: usize, y: i64, z: i64) -> Edge
     fit::edge_at(tgas::temperature::piece(band, i), y, z)
 }
 
-// Refusal 13, with the fit that it was judged by.
-fn out_of_bounds(logs: Logs, fit: i64, weight: i64) -> Answer
-    ensures { λ r. ⌜ held r ≡ judges 13 letterT logs (oneEdge fit weight) ⌝ }
+// Whether a fit gets 13.
+fn is_beyond(fit: i64) -> bool
+    ensures { λ r. ⌜ r ≡ beyondFit fit ⌝ }
+{
+    if fit < 0 {
+        return true;
+    }
+    19600000000 < fit
+}
+
+// The temperature of a fit that does not.
+fn kelvin_of(fit: i64) -> i64
+    requires { ⌜ beyondFit fit ≡ false ⌝ }
+    ensures { λ r. ⌜ r ≡ kelvinBy chosen fit ⌝ }
+{
+    power::kelvin_power(fit as u64 / 10000) as i64
+}
+
+// Refusal 13, with the fits that it was judged by.
+fn out_of_bounds(logs: Logs, edges: Edges) -> Answer
+    ensures { λ r. ⌜ held r ≡ judges 13 letterT logs edges ⌝ }
 {
     Answer::Judged {
         letter: b'T',
         number: 13,
         logs,
-        edges: Edges::One(Edge { fit, weight }),
+        edges,
     }
 }
 
-// The answer of a fit: 13, or the temperature.
-fn from_fit(logs: Logs, fit: i64, weight: i64) -> Answer
-    ensures { λ r. ⌜ held r ≡ fromFit logs fit weight (kelvinBy chosen fit) ⌝ }
+// The answer of a fit at the state's own place.
+fn unjoined(logs: Logs, e: Edge) -> Answer
+    ensures { λ r. ⌜ held r ≡ heldAt temperatureRule Clear logs (λ y. pointOf (kelvinBy chosen) e) ⌝ }
 {
-    if fit < 0 {
-        return out_of_bounds(logs, fit, weight);
+    let g = e.fit;
+    if is_beyond(g) {
+        return out_of_bounds(logs, Edges::One(e));
     }
-    if 19600000000 < fit {
-        return out_of_bounds(logs, fit, weight);
-    }
-    let t = power::kelvin_power(fit as u64 / 10000);
     Answer::Shows {
         letter: b'T',
         logs,
-        edges: Edges::One(Edge { fit, weight }),
+        edges: Edges::One(e),
         ends: Ends::Unjoined,
-        value: t as i64,
+        value: kelvin_of(g),
     }
-}
-
-// The answer of a band's i-th piece.
-fn fitted(band: Band, i: usize, logs: Logs) -> Answer
-    requires { ⌜ PieceReady band i (logs .y) (logs .z) ⌝ }
-    ensures { λ r. ⌜ held r ≡ fittedBy chosen (temperaturePiece band i) logs ⌝ }
-{
-    let e = fit_at(band, i, logs.y, logs.z);
-    from_fit(logs, e.fit, e.weight)
 }
 
 // A temperature's answer from its logarithms.
@@ -85,7 +94,7 @@ fn temperature_from(p: u64, d: u64, logs: Logs) -> Answer
             ends: Ends::Unjoined,
             value: perfect::perfect_gas(p, d) as i64,
         },
-        Region::Fitted(band, i) => fitted(band, i, logs),
+        Region::Fitted(band, i) => unjoined(logs, fit_at(band, i, y, z)),
     }
 }
 

@@ -1,13 +1,11 @@
 -- `fit::edge_at` is the fit of a piece, alone or with its second bicubic.
 use mathlib.Core.Path.{_≡_, _∙_, ap}
 use borrow.Author.Needs.{needs}
-use lib.IntN.{ℤ}
 use mir.Syntax.{w64}
 use mir.Val.{toZ, ofZ}
 use Rattle.weight.specs.Weight.{tolerance, IsWeight}
 use Rattle.weight.specs.Choice.{weightOf}
 use Rattle.weight.proofs.Near.{weight-is}
-use Rattle.fit.specs.declared.Form.the-variants.{Joint}
 use Rattle.fit.specs.Range.{In}
 use Rattle.fit.specs.Fit.{bicubic, exponent, joint}
 use Rattle.fit.specs.Edge.{Workable}
