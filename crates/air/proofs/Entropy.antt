@@ -1,5 +1,6 @@
 -- The entropy is within 3 of the exact one: within 2 outside the strips and at a strip's edges, and the straight line adds less than 1.
 use mathlib.Core.Bool.{Bool, true, false, cond, not, _&&_, _||_}
+use mathlib.Core.List.{List}
 use mathlib.Core.Path.{_≡_, refl, sym, ap, _∙_, subst, subst₂}
 use Prim.Native.Nat.{ℕ, suc, _+_, _-_, _*_, _^_, _≤_, _<_}
 use native.Mathlib.Omega.{arith}
@@ -10,8 +11,8 @@ use Rattle.integer.specs.Z.{up, dn, zs, v, ≤→, <→, →≤, ≡-by}
 use Rattle.integer.specs.Laws.{≤ℤ-trans}
 use Rattle.fraction.specs.Fraction.{Fraction, Within, whole, parts, plus, minus, times, over}
 use Rattle.fit.specs.Fit.{bicubic, straight}
-use Rattle.fit.specs.Exact.{exactBicubic}
-use Rattle.fit.proofs.Near.{near-whole, near-plus, near-more, near-down, near-scaled, bicubic-near, near-straight}
+use Rattle.fit.specs.Exact.{exactly, exactBicubic}
+use Rattle.fit.proofs.Near.{near-whole, near-plus, near-more, near-down, near-scaled, stands, bicubic-near, near-straight}
 use Rattle.tgas.specs.declared.Band.{Band}
 use Rattle.tgas.specs.declared.Band.the-variants.{Low, Middle, High}
 use Rattle.tgas.specs.declared.Strip.{Strip}
@@ -32,16 +33,19 @@ plain-near y z hy hz = go (leZ z (pos 650000))
     x : ℤ
     x = rise y z *ℤ pos R *ℤ pos 2302585
 
+    k : List ℤ
+    k = entropyCoefficients (bandOf y)
+
     below : Within 2 (pos 67792004 +ℤ shrZ x (2 * 10 ^ 10)) (plus (whole (pos 67792004)) (parts (2 * 10 ^ 10) x))
     below = near-more (lit≤ tt) (near-plus (near-whole (pos 67792004)) (near-down x (2 * 10 ^ 10) (lit< tt)))
 
-    above : Within 2 (shrZ (pos R *ℤ bicubic (entropyCoefficients (bandOf y)) y z) (10 ^ 8)) (over (10 ^ 8) (times (whole (pos R)) (exactBicubic (entropyCoefficients (bandOf y)) y z)))
-    above = near-scaled R (10 ^ 8) 149 2 (lit< tt) (lit≤ tt) (bicubic-near 7 4 y z hy hz (entropyCoefficients (bandOf y)))
+    above : Within 2 (shrZ (pos R *ℤ bicubic (entropyCoefficients (bandOf y)) y z) (10 ^ 8)) (over (10 ^ 8) (times (whole (pos R)) (exactBicubic (exactly (entropyCoefficients (bandOf y))) y z)))
+    above = near-scaled R (10 ^ 8) 149 2 (lit< tt) (lit≤ tt) (bicubic-near 0 7 4 y z hy hz k (exactly k) (stands k))
 
     go : (b : Bool)
         → Within 2
         (cond b (pos 67792004 +ℤ shrZ x (2 * 10 ^ 10)) (shrZ (pos R *ℤ bicubic (entropyCoefficients (bandOf y)) y z) (10 ^ 8)))
-        (cond b (plus (whole (pos 67792004)) (parts (2 * 10 ^ 10) x)) (over (10 ^ 8) (times (whole (pos R)) (exactBicubic (entropyCoefficients (bandOf y)) y z))))
+        (cond b (plus (whole (pos 67792004)) (parts (2 * 10 ^ 10) x)) (over (10 ^ 8) (times (whole (pos R)) (exactBicubic (exactly (entropyCoefficients (bandOf y))) y z))))
     go true = below
     go false = above
 

@@ -3,21 +3,19 @@ use mathlib.Core.List.{List}
 use Prim.Native.Nat.{ℕ, _≤_}
 use native.Mathlib.Omega.{arith}
 use lib.Dec.{T}
-use lib.IntN.{ℤ, pos, negsuc, negℤ, natAbs}
-use lib.ListN.{getD}
+use lib.IntN.{ℤ, pos, negsuc, negℤ}
 use lib.Signed.{_≤ℤ_, _<ℤ_}
-use Rattle.integer.specs.Z.{≤→, <→}
+use Rattle.integer.specs.Z.{dn, ≤→, <→}
 use Rattle.fraction.specs.Fraction.{Within}
 use Rattle.weight.specs.Weight.{tolerance}
 use Rattle.fit.specs.Fit.{Weighs, fitted}
 use Rattle.fit.proofs.Size.{size}
-use Rattle.fit.proofs.Distance.{distance, allWithin, table-near}
+use Rattle.fit.proofs.Distance.{Box, distance, allWithin, table-near}
 use Rattle.tgas.specs.declared.Band.{Band}
 use Rattle.tgas.specs.declared.Band.the-variants.{Low, Middle, High}
-use Rattle.tgas.specs.Units.{indexIn}
 use Rattle.tgas.specs.Bands.{bandOf}
 use Rattle.tgas.specs.Temperature.{temperatureEnds, temperaturePieces, temperatureIndex}
-use Rattle.tgas.proofs.Bounds.{bounds, bound-at, widest, widest-holds}
+use Rattle.tgas.proofs.Bounds.{boxes, in-box, widest, widest-holds}
 use Rattle.air.specs.Temperature.{pieceAt}
 use Rattle.air.specs.Exact.{exactTemperatureFit}
 use Rattle.air.specs.Accurate.{fitDistance}
@@ -33,28 +31,28 @@ pub record FittedBox (y z : ℤ) : Type 0 where
   pub least : pos 250000 <ℤ z
   pub most : z ≤ℤ pos 3000000
 
--- where Z can reach in each piece
-abbrev reach : Band → List ℕ
-reach b = bounds (temperatureEnds b) 3000000
+-- where Y and Z can be in each piece
+abbrev reach : Band → List Box
+reach b = boxes (widest b) 0 (temperatureEnds b) 3000000
 
-z-holds : (es : List ℤ) (z : ℤ) → pos 250000 <ℤ z → z ≤ℤ pos 3000000 → natAbs z ≤ getD (bounds es 3000000) (indexIn es z) 0
-z-holds es (pos x) h k = bound-at es 3000000 x (omega (arith, ≤→ k))
-z-holds es (negsuc x) h k = let f : ⊥ = omega (arith, <→ h) in absurd f
+above-zero : (z : ℤ) → pos 250000 <ℤ z → dn z ≤ 0
+above-zero (pos x) h = omega arith
+above-zero (negsuc x) h = let f : ⊥ = omega (arith, <→ h) in absurd f
 
 -- every temperature piece, for weights that are within k, is within d
 abbrev Passes : ℕ → ℕ → Type 0
-Passes d k = (b : Band) → T (allWithin d (widest b) k (reach b) (temperaturePieces b))
+Passes d k = (b : Band) → T (allWithin d k (reach b) (temperaturePieces b))
 
 temperature-near : (d k : ℕ) → Passes d k → (n : ℕ) → 128 ≤ n → (y z w : ℤ) → FittedBox y z
     → Weighs k (pieceAt y z) y z w → Within d (fitted (pieceAt y z) y z w) (exactTemperatureFit n y z)
 temperature-near d k t n most y z w box h =
     let b : Band = bandOf y in
-    table-near d (widest b) k n (reach b) (temperaturePieces b) (t b) (temperatureIndex b z) y z w most
-    (widest-holds y (box .density .least) (box .density .most))
-    (z-holds (temperatureEnds b) z (box .least) (box .most)) h
+    let z-in : dn z ≤ 0 = above-zero z (box .least) in
+    table-near d k n (reach b) (temperaturePieces b) (t b) (temperatureIndex b z) y z w most
+    (in-box (widest b) 0 (temperatureEnds b) 3000000 y z (widest-holds y (box .density .least) (box .density .most)) z-in (omega (arith, ≤→ (box .most)))) h
 
 passes : Passes fitDistance tolerance
-unfolding allWithin distance size temperaturePieces
+unfolding allWithin distance size boxes temperaturePieces
 passes Low = tt
 passes Middle = tt
 passes High = tt

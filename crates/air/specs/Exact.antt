@@ -4,7 +4,7 @@ use Prim.Native.Nat.{ℕ, _*_, _^_}
 use lib.IntN.{ℤ, pos, _*ℤ_}
 use lib.Signed.{leZ}
 use Rattle.fraction.specs.Fraction.{Fraction, whole, parts, plus, times, over}
-use Rattle.fit.specs.Exact.{exactBicubic, exactFit}
+use Rattle.fit.specs.Exact.{exactly, exactBicubic, exactFit}
 use Rattle.tgas.specs.Bands.{bandOf, stripOf}
 use Rattle.tgas.specs.Entropy.{entropyCoefficients}
 use Rattle.perfect.specs.Perfect.{R}
@@ -21,7 +21,7 @@ unfoldable pub exactEntropyAt : ℤ → ℤ → Fraction
 exactEntropyAt y z =
     cond (leZ z (pos 650000))
     (plus (whole (pos 67792004)) (parts (2 * 10 ^ 10) (rise y z *ℤ pos R *ℤ pos 2302585)))
-    (over (10 ^ 8) (times (whole (pos R)) (exactBicubic (entropyCoefficients (bandOf y)) y z)))
+    (over (10 ^ 8) (times (whole (pos R)) (exactBicubic (exactly (entropyCoefficients (bandOf y))) y z)))
 
 -- the exact entropy, joined in a strip
 abbrev pub exactEntropy : ℤ → ℤ → Fraction

@@ -12,7 +12,7 @@ use Rattle.integer.specs.Laws.{*ℤ-mono}
 use Rattle.integer.specs.Floor.{Down, down, down-lo-of, down-hi-of}
 use Rattle.fraction.specs.Fraction.{Fraction, Within, whole, parts, plus, minus, times, over}
 use Rattle.fit.specs.Fit.{mul, coefficient, gas1, gas2, gas3, gas4, bicubic, exponent}
-use Rattle.fit.specs.Exact.{millionths, exactGas1, exactGas2, exactGas3, exactGas4, exactBicubic, exactExponent}
+use Rattle.fit.specs.Exact.{millionths, exactly, exactGas1, exactGas2, exactGas3, exactGas4, exactBicubic, exactExponent}
 
 -- the two sides, in naturals
 low-of : {k : ℕ} {w : ℤ} {f : Fraction} → Within k w f → up w * f .bottom + dn (f .top) ≤ up (f .top) + (dn w + k) * f .bottom
@@ -74,38 +74,42 @@ unfolding mul
 near-mul {c} {x} {f} m (pos a) ha h = by-pos c m x f h a ha (shrZ (x *ℤ pos a) 1000000) (down (x *ℤ pos a) 1000000 (lit< tt))
 near-mul {c} {x} {f} m (negsuc a) ha h = by-neg c m x f h a ha (shrZ (x *ℤ negsuc a) 1000000) (down (x *ℤ negsuc a) 1000000 (lit< tt))
 
--- what a bicubic loses for |Y| up to m and |Z| up to n, in whole units: less than 1 a product, and what was lost before grows
-abbrev pub bicubicLoss : ℕ → ℕ → ℕ
-bicubicLoss m n = 1 + (n + 1) + (m * (m * 2 + 1) + 1) + (n * (n * 2 + 1) + 1)
+-- what a bicubic loses for |Y| up to m and |Z| up to n, in whole units, of coefficients that are e off: less than 1 a product, and what was lost before grows
+abbrev pub bicubicLoss : ℕ → ℕ → ℕ → ℕ
+bicubicLoss e m n =
+    (e + (m * e + 1)) + (n * (e + (m * e + 1)) + 1) + (m * (m * (e + (n * e + 1) + (m * e + 1)) + 1) + 1) + (n * (n * (e + (m * e + 1) + (n * e + 1)) + 1) + 1)
 
 -- what an exponent loses
-abbrev pub exponentLoss : ℕ → ℕ
-exponentLoss n = n + 3
+abbrev pub exponentLoss : ℕ → ℕ → ℕ → ℕ
+exponentLoss e m n = e + (m * e + 1) + (n * e + 1) + (n * (m * e + 1) + 1)
+
+-- coefficients and what they stand for, each at most e off
+abbrev pub Stands : ℕ → List ℤ → (ℕ → Fraction) → Type 0
+Stands e k f = (i : ℕ) → Within e (coefficient k i) (f i)
+
+pub stands : (k : List ℤ) → Stands 0 k (exactly k)
+stands k i = near-whole (coefficient k i)
 
 -- for |Y| up to m and |Z| up to n, in whole units
-module _ (m n : ℕ) (y z : ℤ) (hy : natAbs y ≤ m * 1000000) (hz : natAbs z ≤ n * 1000000) where
-  one-y : (c : ℤ) → Within (m * 0 + 1) (mul c y) (times (whole c) (millionths y))
-  one-y c = near-mul m y hy (near-whole c)
+module _ (e m n : ℕ) (y z : ℤ) (hy : natAbs y ≤ m * 1000000) (hz : natAbs z ≤ n * 1000000) (k : List ℤ) (f : ℕ → Fraction) (h : Stands e k f) where
+  one-y : (i : ℕ) → Within (m * e + 1) (mul (coefficient k i) y) (times (f i) (millionths y))
+  one-y i = near-mul m y hy (h i)
 
-  one-z : (c : ℤ) → Within (n * 0 + 1) (mul c z) (times (whole c) (millionths z))
-  one-z c = near-mul n z hz (near-whole c)
+  one-z : (i : ℕ) → Within (n * e + 1) (mul (coefficient k i) z) (times (f i) (millionths z))
+  one-z i = near-mul n z hz (h i)
 
-  pub bicubic-near : (k : List ℤ) → Within (bicubicLoss m n) (bicubic k y z) (exactBicubic k y z)
+  pub bicubic-near : Within (bicubicLoss e m n) (bicubic k y z) (exactBicubic f y z)
   unfolding bicubic gas1 gas2 gas3 gas4 exactBicubic exactGas1 exactGas2 exactGas3 exactGas4
-  bicubic-near k =
-      let c : ℕ → ℤ = coefficient k in
-      near-more (omega arith)
+  bicubic-near =
+      near-plus
       (near-plus
-      (near-plus
-      (near-plus (near-plus (near-whole (c 0)) (one-y (c 1))) (near-mul n z hz (near-plus (near-whole (c 2)) (one-y (c 3)))))
-      (near-mul m y hy (near-mul m y hy (near-plus (near-plus (near-whole (c 4)) (one-z (c 5))) (one-y (c 6))))))
-      (near-mul n z hz (near-mul n z hz (near-plus (near-plus (near-whole (c 7)) (one-y (c 8))) (one-z (c 9))))))
+      (near-plus (near-plus (h 0) (one-y 1)) (near-mul n z hz (near-plus (h 2) (one-y 3))))
+      (near-mul m y hy (near-mul m y hy (near-plus (near-plus (h 4) (one-z 5)) (one-y 6)))))
+      (near-mul n z hz (near-mul n z hz (near-plus (near-plus (h 7) (one-y 8)) (one-z 9))))
 
-  pub exponent-near : (k : List ℤ) → Within (exponentLoss n) (exponent k y z) (exactExponent k y z)
+  pub exponent-near : Within (exponentLoss e m n) (exponent k y z) (exactExponent f y z)
   unfolding exponent exactExponent
-  exponent-near k =
-      let c : ℕ → ℤ = coefficient k in
-      near-more (omega arith) (near-plus (near-plus (near-plus (near-whole (c 0)) (one-y (c 1))) (one-z (c 2))) (near-mul n z hz (one-y (c 3))))
+  exponent-near = near-plus (near-plus (near-plus (h 0) (one-y 1)) (one-z 2)) (near-mul n z hz (one-y 3))
 
 -- rounded down
 pub near-down : (x : ℤ) (m : ℕ) → 0 < m → Within 1 (shrZ x m) (parts m x)
