@@ -1,7 +1,7 @@
 -- A sheet's number from its header, its records' structure and their names; and the records of an accepted sheet.
 use mathlib.Core.Bool.{Bool, true, false, cond, not, _||_}
 use mathlib.Core.List.{List, []}
-use mathlib.Core.Option.{none, some}
+use mathlib.Core.Option.{Option, none, some}
 use mathlib.Core.Path.{_≡_, refl, sym, ap, ap₂, _∙_}
 use Prim.Native.Nat.{ℕ, zero, suc, _≤_}
 use native.Mathlib.Omega.{arith}
@@ -10,42 +10,48 @@ use lib.Dec.{eqb, ltb}
 use lib.ListN.{length, take}
 use Rattle.distinct.specs.Distinct.{repeats}
 use Rattle.octets.specs.Bytes.{numberAt}
-use Rattle.sheet.specs.Layout.{plainLayout, layoutOf}
+use Rattle.sheet.specs.Layout.{Layout, layoutOf, layoutIn, orPlain}
 use Rattle.sheet.specs.Sheet.{Sheet, refused, records, isMarked, withLayout, sheetBy, sheetOf, numberOf, Accepted}
-use Rattle.sheet.specs.Structure.{headFault, faultFrom, placesFrom, Walked}
+use Rattle.sheet.specs.Structure.{versionFault, headFault, faultFrom, placesFrom, Walked}
 use Rattle.sheet.specs.declared.Record.{Record}
 use Rattle.sheet.proofs.Places.{or-false}
 use Rattle.sheet.proofs.Walk.{recordsFrom, twice, names, verdict, walk-verdict, repeats-names}
 
--- the records of a sheet of version 1, and what ends their reading
+-- the records of a sheet, and what ends their reading
 abbrev pub read : List ℕ → List Record
-read s = recordsFrom plainLayout s (numberAt 2 s 5) 7
+read s = recordsFrom (layoutIn s) s (numberAt 2 s 5) 7
 
 abbrev pub fault : List ℕ → ℕ
-fault s = faultFrom plainLayout s (numberAt 2 s 5) 7
+fault s = faultFrom (layoutIn s) s (numberAt 2 s 5) 7
 
 -- a sheet by its header and its verdict
 abbrev pub byHead : ℕ → Sheet → Sheet
 byHead zero v = v
 byHead (suc k) v = refused (suc k)
 
+-- the verdict where a version has a layout or none
+abbrev under : List ℕ → Option Layout → Sheet
+under s o = verdict s (recordsFrom (orPlain o) s (numberAt 2 s 5) 7) (faultFrom (orPlain o) s (numberAt 2 s 5) 7)
+
+module _ (s : List ℕ) (o : Option Layout) where
+  laid : withLayout s o ≡ byHead (versionFault o) (under s o)
+  laid = go o
+    where
+      go : (o : Option Layout) → withLayout s o ≡ byHead (versionFault o) (under s o)
+      go none = refl
+      go (some y) = walk-verdict y s (numberAt 2 s 5) 7 [] refl
+
+  marked : (b : Bool) → cond b (refused 2) (withLayout s o) ≡ byHead (cond b 2 (versionFault o)) (under s o)
+  marked true = refl
+  marked false = laid
+
+  long : (a b : Bool) → cond a (refused 1) (cond b (refused 2) (withLayout s o)) ≡ byHead (cond a 1 (cond b 2 (versionFault o))) (under s o)
+  long true b = refl
+  long false b = marked b
+
 pub sheet-verdict : (s : List ℕ) → sheetOf s ≡ byHead (headFault s) (verdict s (read s) (fault s))
-unfolding sheetBy headFault
-sheet-verdict s = long (ltb 65536 (length s))
-  where
-    laid : (b : Bool) → withLayout s (cond b (some plainLayout) none) ≡ byHead (cond b 0 3) (verdict s (read s) (fault s))
-    laid true = walk-verdict plainLayout s (numberAt 2 s 5) 7 [] refl
-    laid false = refl
-
-    marked : (b : Bool) → cond b (refused 2) (withLayout s (layoutOf (numberAt 2 s 3))) ≡ byHead (cond b 2 (cond (eqb (numberAt 2 s 3) 1) 0 3)) (verdict s (read s) (fault s))
-    marked true = refl
-    marked false = laid (eqb (numberAt 2 s 3) 1)
-
-    long : (b : Bool)
-        → cond b (refused 1) (cond (ltb (length s) 7 || not (isMarked s)) (refused 2) (withLayout s (layoutOf (numberAt 2 s 3))))
-        ≡ byHead (cond b 1 (cond (ltb (length s) 7 || not (isMarked s)) 2 (cond (eqb (numberAt 2 s 3) 1) 0 3))) (verdict s (read s) (fault s))
-    long true = refl
-    long false = marked (ltb (length s) 7 || not (isMarked s))
+unfolding sheetBy headFault layoutIn
+sheet-verdict s = long s (layoutOf (numberAt 2 s 3)) (ltb 65536 (length s)) (ltb (length s) 7 || not (isMarked s))
 
 number-verdict : (t : Bool) (rs : List Record) (k : ℕ) → numberOf (cond t (refused 16) (cond (eqb k 0) (records rs) (refused k))) ≡ cond t 16 k
 number-verdict true rs k = refl
@@ -78,11 +84,11 @@ pub headed : (s : List ℕ) → headFault s ≡ 0 → Headed s
 unfolding headFault
 headed s e = long (ltb 65536 (length s)) refl e
   where
-    short : (b : Bool) → (ltb (length s) 7 || not (isMarked s)) ≡ b → length s ≤ 65536 → _≡_ {A = ℕ} (cond b 2 (cond (eqb (numberAt 2 s 3) 1) 0 3)) 0 → Headed s
+    short : (b : Bool) → (ltb (length s) 7 || not (isMarked s)) ≡ b → length s ≤ 65536 → _≡_ {A = ℕ} (cond b 2 (versionFault (layoutOf (numberAt 2 s 3)))) 0 → Headed s
     short true p m h = absurd (omega arith)
     short false p m h = record { most = m; least = ltb-false (length s) 7 (or-false (ltb (length s) 7) (not (isMarked s)) p .0) }
 
-    long : (b : Bool) → ltb 65536 (length s) ≡ b → _≡_ {A = ℕ} (cond b 1 (cond (ltb (length s) 7 || not (isMarked s)) 2 (cond (eqb (numberAt 2 s 3) 1) 0 3))) 0 → Headed s
+    long : (b : Bool) → ltb 65536 (length s) ≡ b → _≡_ {A = ℕ} (cond b 1 (cond (ltb (length s) 7 || not (isMarked s)) 2 (versionFault (layoutOf (numberAt 2 s 3))))) 0 → Headed s
     long true p h = absurd (omega arith)
     long false p h = short (ltb (length s) 7 || not (isMarked s)) refl (ltb-false 65536 (length s) p) h
 
@@ -106,6 +112,6 @@ pub number-walked : (s : List ℕ) (n number count : ℕ) (starts : List ℕ) �
     → numberOf (sheetOf s) ≡ cond (repeats s (take count starts)) 16 number
 number-walked s n number count starts h e w =
     let c : repeats s (take count starts) ≡ twice (names s (read s)) =
-    ap (repeats s) (w .places) ∙ ap (λ (m : ℕ). repeats s (placesFrom plainLayout s m 7)) e ∙ repeats-names plainLayout s (numberAt 2 s 5) 7 in
-    let f : number ≡ fault s = w .fault ∙ ap (λ (m : ℕ). faultFrom plainLayout s m 7) e in
+    ap (repeats s) (w .places) ∙ ap (λ (m : ℕ). repeats s (placesFrom (layoutIn s) s m 7)) e ∙ repeats-names (layoutIn s) s (numberAt 2 s 5) 7 in
+    let f : number ≡ fault s = w .fault ∙ ap (λ (m : ℕ). faultFrom (layoutIn s) s m 7) e in
     number-records s h ∙ ap₂ (λ (b : Bool) (k : ℕ). cond b 16 k) (sym c) (sym f)

@@ -7,7 +7,7 @@ use mathlib.Core.Path.{_≡_, refl, sym, ap, subst, _∙_}
 use Prim.Native.Nat.{ℕ, zero, suc, _+_, _≤_}
 use native.Mathlib.Omega.{arith}
 use lib.Dec.{ltb, eqb}
-use lib.ListN.{length, drop, length-drop}
+use lib.ListN.{length, drop}
 use Rattle.kind.specs.Kind.{kindOf, isKnown}
 use Rattle.octets.specs.Bytes.{same, numberAt}
 use Rattle.sheet.specs.Find.{findIn}
@@ -15,9 +15,8 @@ use Rattle.sheet.specs.Layout.{Layout}
 use Rattle.sheet.specs.Sheet.{Fields, Front, bad, front, frontOf, recordAt, past, nameIn, Sheet, refused, records, seen, walk, withLayout, isMarked, sheetBy}
 use Rattle.sheet.specs.declared.Lookup.the-variants.{Hit, Miss}
 use Rattle.sheet.specs.declared.Record.{Record}
-use Rattle.sheet.proofs.Places.{or-false}
+use Rattle.sheet.proofs.Places.{Sound, View, reads, view, or-false}
 use Rattle.distinct.proofs.Same.{same-refl}
-use Rattle.sheet.proofs.Walk.{Whole, View, reads, view}
 
 -- what is found stays found where more records follow
 still : (s : List ℕ) (rs ts : List Record) (name : List ℕ) (r : Record) → findIn s rs name ≡ Hit r → findIn s (rs ++ ts) name ≡ Hit r
@@ -53,14 +52,8 @@ pub record Located (s : List ℕ) (rs : List Record) (r : Record) : Type 0 where
 Found : List ℕ → List Record → Type 0
 Found s rs = (r : Record) → List·Memᴰ r rs → Located s rs r
 
-whole-fit : (s : List ℕ) (at : ℕ) (f : Fields) → Whole (drop at s) f → Fit s (recordAt at f)
-whole-fit s at f w =
-    record {
-      named = w .named;
-      short = w .short;
-      inside = omega (arith, w .fits, length-drop at s);
-      known = w .known;
-    }
+sound-fit : (y : Layout) (s : List ℕ) (at : ℕ) (f : Fields) → Sound y s at f → Fit s (recordAt at f)
+sound-fit y s at f w = record { named = w .named; short = w .short; inside = omega (arith, w .fits); known = w .known }
 
 alone : (s : List ℕ) (r : Record) → findIn s (r ∷ []) (nameIn s r) ≡ Hit r
 unfolding findIn
@@ -87,7 +80,7 @@ walked y s zero at before rs g e = go (eqb at (length s)) e
     go : (b : Bool) → cond b (records before) (refused 4) ≡ records rs → Found s rs
     go true h = let p : before ≡ rs = cc in subst (Found s) p g
     go false h = absurd (never h)
-walked y s (suc n) at before rs g e = go (walked y s n) (frontOf y (drop at s)) (view y (drop at s)) e
+walked y s (suc n) at before rs g e = go (walked y s n) (frontOf y (drop at s)) (view y s at) e
   where
     Below : Type 0
     Below = (at′ : ℕ) (more ts : List Record) → Found s more → walk y s n at′ more ≡ records ts → Found s ts
@@ -97,14 +90,14 @@ walked y s (suc n) at before rs g e = go (walked y s n) (frontOf y (drop at s)) 
     next ih f w true p h = absurd (never h)
     next ih f w false p h = ih (past at f) (before ++ (recordAt at f ∷ [])) rs (grown s before (recordAt at f) p w g) h
 
-    go : Below → (t : Front) → View (drop at s) t
+    go : Below → (t : Front) → View y s at t
         → elim t as (λ c. Sheet) [
           | bad k ↦ refused k
           | front f ↦ elim (seen s before (nameIn s (recordAt at f))) as (λ c. Sheet) [ true ↦ refused 16 | false ↦ walk y s n (past at f) (before ++ (recordAt at f ∷ [])) ]
         ] ≡ records rs
         → Found s rs
     go ih (bad k) v h = absurd (never h)
-    go ih (front f) (reads w) h = next ih f (whole-fit s at f w) (seen s before (nameIn s (recordAt at f))) refl h
+    go ih (front f) (reads w) h = next ih f (sound-fit y s at f w) (seen s before (nameIn s (recordAt at f))) refl h
 
 none-yet : (s : List ℕ) → Found s []
 unfolding Found

@@ -1,15 +1,16 @@
 -- A cursor's step, case by case.
 use mathlib.Core.List.{List}
 use mathlib.Core.Path.{_≡_, refl, sym, ap, ap₂, _∙_}
-use Prim.Native.Nat.{ℕ, zero, suc, _+_, _-_}
+use Prim.Native.Nat.{ℕ, zero, suc, _-_}
 use native.Mathlib.Omega.{arith}
 use borrow.Author.Tests.{eq-eqb, ne-eqb}
-use lib.ListN.{length, getD, drop}
-use Rattle.sheet.specs.Layout.{Layout, plainLayout}
-use Rattle.sheet.specs.Sheet.{frontOf, stepAt}
-use Rattle.sheet.specs.Structure.{entryAt, faultOf}
+use lib.ListN.{length, drop}
+use Rattle.sheet.specs.Layout.{Layout}
+use Rattle.sheet.specs.Sheet.{frontOf, recordAt, past, stepAt}
+use Rattle.sheet.specs.Structure.{behind, entryAt, faultOf}
+use Rattle.sheet.specs.declared.Record.{Record}
 use Rattle.sheet.specs.declared.Step.the-variants.{Read, Refused, End}
-use Rattle.sheet.proofs.Places.{Sound, faulty}
+use Rattle.sheet.proofs.Places.{Stands, faulty}
 
 pub step-end : (y : Layout) (s : List ℕ) (at left : ℕ) → left ≡ 0 → at ≡ length s → stepAt y s at left ≡ End
 unfolding stepAt
@@ -25,11 +26,11 @@ step-refused y s at zero k z e h = absurd (z refl)
 step-refused y s at (suc left) k z e h =
     rw (faulty (frontOf y (drop at s)) (λ p. h (e ∙ p))) (ap Refused (sym e))
 
-pub step-read : (s : List ℕ) (at left : ℕ) → (left ≡ 0 → ⊥) → Sound s at
-    → stepAt plainLayout s at left ≡ Read (entryAt s at) (record { at = at + 18 + getD s at 0; left = left - 1 })
+pub step-read : (y : Layout) (s : List ℕ) (at left : ℕ) → (left ≡ 0 → ⊥) → Stands y s at
+    → stepAt y s at left ≡ Read (entryAt s at) (record { at = behind at (frontOf y (drop at s)); left = left - 1 })
 unfolding stepAt
-step-read s at zero z p = absurd (z refl)
-step-read s at (suc left) z p =
-    let e : at + 18 + getD s at 0 + 0 ≡ at + 18 + getD s at 0 = omega arith in
+step-read y s at zero z p = absurd (z refl)
+step-read y s at (suc left) z p =
+    let f = p .fields in
     let g : left ≡ suc left - 1 = omega arith in
-    rw (p .is) (ap₂ (λ (a l : ℕ). Read (entryAt s at) (record { at = a; left = l })) e g)
+    rw (p .is) (ap₂ (λ (r : Record) (l : ℕ). Read r (record { at = past at f; left = l })) (ap (recordAt at) (p .sound .is)) g)

@@ -2,19 +2,19 @@
 use mathlib.Core.Bool.{Bool, true, false, cond}
 use mathlib.Core.List.{List, [], _∷_, _++_, append-nil}
 use mathlib.Core.Path.{_≡_, refl, sym, ap, ap₂, _∙_}
-use Prim.Native.Nat.{ℕ, zero, suc, _+_, _-_, _*_, _≤_, _<_}
+use Prim.Native.Nat.{ℕ, zero, suc, _+_, _*_, _≤_, _<_}
 use native.Mathlib.Numerals.{add-one}
 use native.Mathlib.Omega.{arith}
 use lib.Dec.{eqb}
-use lib.ListN.{length, getD, take, drop, set, length-set}
+use lib.ListN.{length, take, drop, set, length-set}
 use lib.Seq.{take-suc-set, append-snoc}
-use Rattle.sheet.specs.Layout.{Layout, plainLayout}
+use Rattle.sheet.specs.Layout.{Layout, layoutIn}
 use Rattle.sheet.specs.Sheet.{Front, bad, front, frontOf, past, placed, stepAt}
-use Rattle.sheet.specs.Structure.{faultOf, faultFrom, placesFrom, Walked}
+use Rattle.sheet.specs.Structure.{faultFrom, placesFrom, Walked}
 use Rattle.sheet.specs.declared.Cursor.{Cursor}
 use Rattle.sheet.specs.declared.Record.{Record}
 use Rattle.sheet.specs.declared.Step.the-variants.{Read, Refused, End}
-use Rattle.sheet.proofs.Places.{fieldsAt, Sound, sound}
+use Rattle.sheet.proofs.Places.{View, reads, view}
 
 -- nothing comes after a step that reads no record
 pub record Stops (y : Layout) (s : List ℕ) (at left k : ℕ) : Type 0 where
@@ -47,48 +47,46 @@ stops-end y s at (suc n) e = go (frontOf y (drop at s)) e
     go (bad j) h = let z : _≡_ {A = ℕ} 0 1 = cc in absurd (omega arith)
     go (front f) h = let z : _≡_ {A = ℕ} 0 1 = cc in absurd (omega arith)
 
--- a step that reads a record of version 1 goes on behind it
-pub record Goes (s : List ℕ) (at left : ℕ) (c : Cursor) : Type 0 where
-  pub here : Sound s at
-  pub next : c .at ≡ at + 18 + getD s at 0
+-- a step that reads a record goes on behind it
+pub record Goes (y : Layout) (s : List ℕ) (at left : ℕ) (c : Cursor) : Type 0 where
+  pub later : at + 19 ≤ c .at
+  pub inside : c .at ≤ length s
   pub fewer : suc (c .left) ≡ left
-  pub fault : faultFrom plainLayout s left at ≡ faultFrom plainLayout s (c .left) (c .at)
-  pub places : placesFrom plainLayout s left at ≡ at ∷ placesFrom plainLayout s (c .left) (c .at)
+  pub fault : faultFrom y s left at ≡ faultFrom y s (c .left) (c .at)
+  pub places : placesFrom y s left at ≡ at ∷ placesFrom y s (c .left) (c .at)
 
-pub goes : (s : List ℕ) (at left : ℕ) (r : Record) (c : Cursor) → stepAt plainLayout s at left ≡ Read r c → Goes s at left c
+pub goes : (y : Layout) (s : List ℕ) (at left : ℕ) (r : Record) (c : Cursor) → stepAt y s at left ≡ Read r c → Goes y s at left c
 unfolding stepAt faultFrom placesFrom
-goes s at zero r c e = go (eqb at (length s)) e
+goes y s at zero r c e = go (eqb at (length s)) e
   where
-    go : (b : Bool) → cond b End (Refused 4) ≡ Read r c → Goes s at zero c
+    go : (b : Bool) → cond b End (Refused 4) ≡ Read r c → Goes y s at zero c
     go true h = let z : _≡_ {A = ℕ} 0 1 = cc in absurd (omega arith)
     go false h = let z : _≡_ {A = ℕ} 0 1 = cc in absurd (omega arith)
-goes s at (suc n) r c e = go (frontOf plainLayout (drop at s)) refl e
+goes y s at (suc n) r c e = go (frontOf y (drop at s)) refl (view y s at) e
   where
-    go : (t : Front) → frontOf plainLayout (drop at s) ≡ t → placed at n t ≡ Read r c → Goes s at (suc n) c
-    go (bad j) p h = let z : _≡_ {A = ℕ} 0 1 = cc in absurd (omega arith)
-    go (front f) p h =
-        let o : Sound s at = sound s at (ap faultOf p) in
-        let w : f ≡ fieldsAt s at = cc (o .is) in
+    go : (t : Front) → frontOf y (drop at s) ≡ t → View y s at t → placed at n t ≡ Read r c → Goes y s at (suc n) c
+    go (bad j) p v h = let z : _≡_ {A = ℕ} 0 1 = cc in absurd (omega arith)
+    go (front f) p (reads w) h =
         let k : record { at = past at f; left = n } ≡ c = cc in
         let a : past at f ≡ c .at = ap (λ (x : Cursor). x .at) k in
         let l : n ≡ c .left = ap (λ (x : Cursor). x .left) k in
         record {
-          here = o;
-          next = sym a ∙ ap (past at) w ∙ omega arith;
+          later = omega (arith, w .named);
+          inside = omega (arith, w .fits);
           fewer = ap suc (sym l);
-          fault = rw (p, faultFrom) (ap₂ (faultFrom plainLayout s) l a);
-          places = rw (p, placesFrom) (ap (λ (x : List ℕ). at ∷ x) (ap₂ (placesFrom plainLayout s) l a));
+          fault = rw (p, faultFrom) (ap₂ (faultFrom y s) l a);
+          places = rw (p, placesFrom) (ap (λ (x : List ℕ). at ∷ x) (ap₂ (placesFrom y s) l a));
         }
 
 -- where the walk over n records stands after i of them: the places so far, and what is still to come
 pub record Walking (s : List ℕ) (n left at i : ℕ) (starts : List ℕ) : Type 0 where
-  pub fault : faultFrom plainLayout s n 7 ≡ faultFrom plainLayout s left at
-  pub places : placesFrom plainLayout s n 7 ≡ take i starts ++ placesFrom plainLayout s left at
+  pub fault : faultFrom (layoutIn s) s n 7 ≡ faultFrom (layoutIn s) s left at
+  pub places : placesFrom (layoutIn s) s n 7 ≡ take i starts ++ placesFrom (layoutIn s) s left at
   pub room : 7 + 19 * i ≤ at
   pub most : at ≤ 65536
   pub whole : length starts ≡ 3449
 
-pub walking-ends : (s : List ℕ) (n left at i k : ℕ) (starts : List ℕ) → Walking s n left at i starts → Stops plainLayout s at left k
+pub walking-ends : (s : List ℕ) (n left at i k : ℕ) (starts : List ℕ) → Walking s n left at i starts → Stops (layoutIn s) s at left k
     → Walked s n k i starts
 walking-ends s n left at i k starts w e =
     record {
@@ -99,7 +97,7 @@ walking-ends s n left at i k starts w e =
     }
 
 pub walking-goes : (s : List ℕ) (n left at i : ℕ) (starts : List ℕ) (c : Cursor) → length s ≤ 65536
-    → Walking s n left at i starts → Goes s at left c → Walking s n (c .left) (c .at) (i + 1) (set starts i at)
+    → Walking s n left at i starts → Goes (layoutIn s) s at left c → Walking s n (c .left) (c .at) (i + 1) (set starts i at)
 walking-goes s n left at i starts c m w g =
     let l : i < length starts = omega arith in
     let t : take (i + 1) (set starts i at) ≡ take i starts ++ (at ∷ []) = rw add-one (take-suc-set starts i at l) in
@@ -108,8 +106,8 @@ walking-goes s n left at i starts c m w g =
       places =
           w .places
           ∙ ap (λ (l : List ℕ). take i starts ++ l) (g .places)
-          ∙ sym (append-snoc (take i starts) at (placesFrom plainLayout s (c .left) (c .at)))
-          ∙ ap (λ (l : List ℕ). l ++ placesFrom plainLayout s (c .left) (c .at)) (sym t);
+          ∙ sym (append-snoc (take i starts) at (placesFrom (layoutIn s) s (c .left) (c .at)))
+          ∙ ap (λ (l : List ℕ). l ++ placesFrom (layoutIn s) s (c .left) (c .at)) (sym t);
       room = omega arith;
       most = omega arith;
       whole = length-set starts i at ∙ w .whole;

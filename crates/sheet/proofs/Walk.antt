@@ -2,66 +2,19 @@
 -- the records before that end share a name. Holds for any layout.
 use mathlib.Core.Bool.{Bool, true, false, cond, _||_, or-true}
 use mathlib.Core.List.{List, [], _∷_, _++_, append-nil}
-use mathlib.Core.Option.{Option, none, some}
 use mathlib.Core.Path.{_≡_, refl, sym, ap, ap₂, _∙_}
-use Prim.Native.Nat.{ℕ, zero, suc, _+_, _≤_}
-use native.Mathlib.Nat.{add-zero}
-use native.Mathlib.Omega.{arith}
-use borrow.Author.Tests.{eqb-false, ltb-false, ne-eqb}
-use lib.Dec.{eqb, ltb}
-use lib.ListN.{length, getD, drop}
-use lib.Seq.{append-snoc, getD-drop}
+use Prim.Native.Nat.{ℕ, zero, suc, _+_}
+use borrow.Author.Tests.{ne-eqb}
+use lib.Dec.{eqb}
+use lib.ListN.{length, drop}
+use lib.Seq.{append-snoc}
 use Rattle.distinct.specs.Distinct.{nameAt, seenIn, repeats}
-use Rattle.kind.specs.Kind.{kindOf, isKnown}
-use Rattle.octets.specs.Bytes.{numberAt, same, part}
+use Rattle.octets.specs.Bytes.{same, part}
 use Rattle.sheet.specs.Layout.{Layout}
-use Rattle.sheet.specs.Sheet.{Fields, Front, bad, front, frontOf, fieldsOf, recordAt, past, nameIn, Sheet, refused, records, seen, walk}
+use Rattle.sheet.specs.Sheet.{Fields, Front, bad, front, frontOf, recordAt, past, nameIn, Sheet, refused, records, seen, walk}
 use Rattle.sheet.specs.Structure.{placesFrom, faultFrom}
 use Rattle.sheet.specs.declared.Record.{Record}
-use Rattle.sheet.proofs.Places.{or-false}
-
--- a record that the bytes u begin with: its name is as long as the first byte says, it is whole, and its kind is known
-pub record Whole (u : List ℕ) (f : Fields) : Type 0 where
-  pub len-is : f .len ≡ getD u 0 0
-  pub named : 1 ≤ f .len
-  pub short : f .len ≤ 40
-  pub fits : f .len + 18 ≤ length u
-  pub known : isKnown (kindOf (f .kind)) ≡ true
-
--- what the bytes u begin with: a number that is not 0, or such a record
-pub data View (u : List ℕ) : Front → Type 0 where
-  refuses : {k : ℕ} → (k ≡ 0 → ⊥) → View u (bad k)
-  reads : {f : Fields} → Whole u f → View u (front f)
-
-pub view : (y : Layout) (u : List ℕ) → View u (frontOf y u)
-unfolding frontOf
-view y [] = refuses (eqb-false 4 0 refl)
-view y (n ∷ u) = long (eqb n 0 || ltb 40 n) refl
-  where
-    Named : Type 0
-    Named = (1 ≤ n) × (n ≤ 40)
-
-    known : Named → n + 17 ≤ length u → (t : ℕ) (b : Bool) → isKnown (kindOf (getD u n 0)) ≡ b
-        → View (n ∷ u) (cond b (front (record { len = n; kind = getD u n 0; first = numberAt 8 u (n + 1); second = numberAt 8 u (n + 9); tail = t })) (bad 6))
-    known m l t true p = reads (record { len-is = refl; named = m .0; short = m .1; fits = omega arith; known = p })
-    known m l t false p = refuses (eqb-false 6 0 refl)
-
-    tailed : Named → n + 17 ≤ length u → (o : Option ℕ) → View (n ∷ u) (fieldsOf n u o)
-    tailed m l none = refuses (eqb-false 4 0 refl)
-    tailed m l (some t) = known m l t (isKnown (kindOf (getD u n 0))) refl
-
-    cut : Named → (b : Bool) → ltb (length u) (n + 17) ≡ b → View (n ∷ u) (cond b (bad 4) (fieldsOf n u (y .tail (drop (n + 17) u))))
-    cut m true p = refuses (eqb-false 4 0 refl)
-    cut m false p = tailed m (ltb-false (length u) (n + 17) p) (y .tail (drop (n + 17) u))
-
-    long : (b : Bool) → (eqb n 0 || ltb 40 n) ≡ b
-        → View (n ∷ u) (cond b (bad 5) (cond (ltb (length u) (n + 17)) (bad 4) (fieldsOf n u (y .tail (drop (n + 17) u)))))
-    long true p = refuses (eqb-false 5 0 refl)
-    long false p =
-        let o = or-false (eqb n 0) (ltb 40 n) p in
-        let z : n ≡ 0 → ⊥ = eqb-false n 0 (o .0) in
-        let m : n ≤ 40 = ltb-false 40 n (o .1) in
-        cut (omega arith, m) (ltb (length u) (n + 17)) refl
+use Rattle.sheet.proofs.Places.{View, refuses, reads, view, or-false}
 
 -- the records that the walk reads
 unfoldable pub recordsFrom : Layout → List ℕ → ℕ → ℕ → List Record
@@ -97,15 +50,14 @@ repeats-twice s (p ∷ ps) = ap₂ (λ (a b : Bool). a || b) (seen-occurs s ps (
 place-names : (y : Layout) (s : List ℕ) (n at : ℕ) → placeNames s (placesFrom y s n at) ≡ names s (recordsFrom y s n at)
 unfolding placesFrom recordsFrom
 place-names y s zero at = refl
-place-names y s (suc n) at = go (λ at′. place-names y s n at′) (frontOf y (drop at s)) (view y (drop at s))
+place-names y s (suc n) at = go (λ at′. place-names y s n at′) (frontOf y (drop at s)) (view y s at)
   where
-    go : ((at′ : ℕ) → placeNames s (placesFrom y s n at′) ≡ names s (recordsFrom y s n at′)) → (t : Front) → View (drop at s) t
+    go : ((at′ : ℕ) → placeNames s (placesFrom y s n at′) ≡ names s (recordsFrom y s n at′)) → (t : Front) → View y s at t
         → placeNames s (elim t as (λ x. List ℕ) [ bad k ↦ [] | front f ↦ at ∷ placesFrom y s n (past at f) ])
         ≡ names s (elim t as (λ x. List Record) [ bad k ↦ [] | front f ↦ recordAt at f ∷ recordsFrom y s n (past at f) ])
     go ih (bad k) v = refl
     go ih (front f) (reads e) =
-        let l : getD s at 0 ≡ f .len = sym (e .len-is ∙ getD-drop at s 0 0 ∙ ap (λ (i : ℕ). getD s i 0) (add-zero at)) in
-        ap₂ (λ (x : List ℕ) (xs : List (List ℕ)). x ∷ xs) (ap (part s (at + 1)) l) (ih (past at f))
+        ap₂ (λ (x : List ℕ) (xs : List (List ℕ)). x ∷ xs) (ap (part s (at + 1)) (sym (e .len-is))) (ih (past at f))
 
 -- two records share a name exactly where two of the places do
 pub repeats-names : (y : Layout) (s : List ℕ) (n at : ℕ) → repeats s (placesFrom y s n at) ≡ twice (names s (recordsFrom y s n at))
@@ -156,7 +108,7 @@ walk-verdict y s zero at before h = rw (append-nil before, h) (go (eqb at (lengt
     go : (b : Bool) → cond b (records before) (refused 4) ≡ cond (eqb (cond b 0 4) 0) (records before) (refused (cond b 0 4))
     go true = refl
     go false = refl
-walk-verdict y s (suc n) at before h = go (walk-verdict y s n) (frontOf y (drop at s)) (view y (drop at s))
+walk-verdict y s (suc n) at before h = go (walk-verdict y s n) (frontOf y (drop at s)) (view y s at)
   where
     Below : Type 0
     Below = (at′ : ℕ) (more : List Record) → twice (names s more) ≡ false → walk y s n at′ more ≡ verdict s (more ++ recordsFrom y s n at′) (faultFrom y s n at′)
@@ -169,7 +121,7 @@ walk-verdict y s (suc n) at before h = go (walk-verdict y s n) (frontOf y (drop 
         ih (past at f) (before ++ (recordAt at f ∷ [])) (fresh s before (recordAt at f) h p)
         ∙ ap (λ (l : List Record). verdict s l (faultFrom y s n (past at f))) (append-snoc before (recordAt at f) (recordsFrom y s n (past at f)))
 
-    go : Below → (t : Front) → View (drop at s) t
+    go : Below → (t : Front) → View y s at t
         → elim t as (λ x. Sheet) [
           | bad k ↦ refused k
           | front f ↦ elim (seen s before (nameIn s (recordAt at f))) as (λ c. Sheet) [ true ↦ refused 16 | false ↦ walk y s n (past at f) (before ++ (recordAt at f ∷ [])) ]

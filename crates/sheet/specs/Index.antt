@@ -5,7 +5,7 @@ use Prim.Native.Nat.{ℕ}
 use lib.ListN.{length, take}
 use Rattle.distinct.specs.Chain.{NoLinks, Table}
 use Rattle.octets.specs.Bytes.{numberAt}
-use Rattle.sheet.specs.Layout.{plainLayout}
+use Rattle.sheet.specs.Layout.{layoutIn}
 use Rattle.sheet.specs.Sheet.{Accepted}
 use Rattle.sheet.specs.Structure.{placesFrom}
 
@@ -20,5 +20,5 @@ pub record Indexed (s starts heads next : List ℕ) : Type 0 where
   pub accepted : Accepted s
   pub whole : length starts ≡ 3449
   pub count : ℕ
-  pub places : take count starts ≡ placesFrom plainLayout s (numberAt 2 s 5) 7
+  pub places : take count starts ≡ placesFrom (layoutIn s) s (numberAt 2 s 5) 7
   pub table : Table s starts heads next count

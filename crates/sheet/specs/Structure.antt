@@ -1,28 +1,39 @@
 -- The sheet as its check goes through it: the header, then the records without a look at their names, by places in the sheet.
 use mathlib.Core.Bool.{cond, not, _||_}
 use mathlib.Core.List.{List, [], _∷_}
+use mathlib.Core.Option.{Option, none, some}
 use mathlib.Core.Path.{_≡_}
 use Prim.Native.Nat.{ℕ, zero, suc, _+_, _≤_}
 use lib.Dec.{eqb, ltb}
 use lib.ListN.{length, getD, take, drop}
 use Rattle.octets.specs.Bytes.{numberAt}
-use Rattle.sheet.specs.Layout.{Layout, plainLayout}
+use Rattle.sheet.specs.Layout.{Layout, layoutOf, layoutIn}
 use Rattle.sheet.specs.Sheet.{Front, bad, front, frontOf, past, isMarked}
 use Rattle.sheet.specs.declared.Record.{Record}
+
+-- 3 for a version without a layout, or 0
+abbrev pub versionFault : Option Layout → ℕ
+versionFault none = 3
+versionFault (some y) = 0
 
 -- the refusal of the sheet as a whole, or 0
 unfoldable pub headFault : List ℕ → ℕ
 headFault s =
     cond (ltb 65536 (length s)) 1
     (cond (ltb (length s) 7 || not (isMarked s)) 2
-    (cond (eqb (numberAt 2 s 3) 1) 0 3))
+    (versionFault (layoutOf (numberAt 2 s 3))))
 
 -- the refusal of a record, or 0
 abbrev pub faultOf : Front → ℕ
 faultOf (bad k) = k
 faultOf (front f) = 0
 
--- the record of version 1 whose length byte stands at a place
+-- the place behind a record at a place; its own where it is refused
+abbrev pub behind : ℕ → Front → ℕ
+behind at (bad k) = at
+behind at (front f) = past at f
+
+-- the record whose length byte stands at a place
 abbrev pub entryAt : List ℕ → ℕ → Record
 entryAt s at =
     let n : ℕ = getD s at 0 in
@@ -46,7 +57,7 @@ faultFrom y s (suc n) at = elim (frontOf y (drop at s)) [ bad k ↦ k | front f 
 
 -- what a walk over n records leaves: the refusal that ended it, and in front of the array the places of the records before it
 pub record Walked (s : List ℕ) (n number count : ℕ) (starts : List ℕ) : Type 0 where
-  pub fault : number ≡ faultFrom plainLayout s n 7
-  pub places : take count starts ≡ placesFrom plainLayout s n 7
+  pub fault : number ≡ faultFrom (layoutIn s) s n 7
+  pub places : take count starts ≡ placesFrom (layoutIn s) s n 7
   pub most : count ≤ 3449
   pub whole : length starts ≡ 3449

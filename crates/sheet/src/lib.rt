@@ -5,9 +5,9 @@ ghost use lib.ListN.{length, getD, drop};
 ghost use Rattle.octets.specs.Bytes.{numberAt};
 ghost use Rattle.sheet.specs.Find.{findOf, handedBack, Inside};
 ghost use Rattle.sheet.specs.Index.{Blank, Indexed};
-ghost use Rattle.sheet.specs.Layout.{plainLayout};
+ghost use Rattle.sheet.specs.Layout.{layoutIn};
 ghost use Rattle.sheet.specs.Sheet.{frontOf, numberOf, sheetOf, stepAt};
-ghost use Rattle.sheet.specs.Structure.{Walked, entryAt, faultOf, headFault};
+ghost use Rattle.sheet.specs.Structure.{Walked, behind, entryAt, faultOf, headFault};
 
 // One record: where its name stands, its kind byte and its two values.
 pub struct Record {
@@ -71,7 +71,7 @@ fn number(s: &[u8], at: usize, k: usize) -> u64
 
 // The refusal of the record at a place, or 0.
 fn fault_at(s: &[u8], at: usize) -> u32
-    ensures { λ r. ⌜ r ≡ faultOf (frontOf plainLayout (drop at (now (s .entry)))) ⌝ }
+    ensures { λ r. ⌜ r ≡ faultOf (frontOf (layoutIn (now (s .entry))) (drop at (now (s .entry)))) ⌝ }
 {
     if s.len() <= at {
         return 4;
@@ -112,9 +112,17 @@ fn entry_at(s: &[u8], at: usize, n: usize) -> Record
     }
 }
 
+// The place behind the record whose length byte stands at a place.
+fn past_of(s: &[u8], at: usize, n: usize) -> usize
+    requires { ⌜ (n ≡ getD (now s) at 0) × (faultOf (frontOf (layoutIn (now s)) (drop at (now s))) ≡ 0) ⌝ }
+    ensures { λ r. ⌜ r ≡ behind at (frontOf (layoutIn (now (s .entry))) (drop at (now (s .entry)))) ⌝ }
+{
+    at + 18 + n
+}
+
 // The cursor's step at a place with so many records left.
 fn step_at(s: &[u8], at: usize, left: usize) -> Step
-    ensures { λ r. ⌜ r ≡ stepAt plainLayout (now (s .entry)) at left ⌝ }
+    ensures { λ r. ⌜ r ≡ stepAt (layoutIn (now (s .entry))) (now (s .entry)) at left ⌝ }
 {
     if left == 0 {
         if at == s.len() {
@@ -128,7 +136,7 @@ fn step_at(s: &[u8], at: usize, left: usize) -> Step
     }
     let n = long(s[at]);
     let next = Cursor {
-        at: at + 18 + n,
+        at: past_of(s, at, n),
         left: left - 1,
     };
     Step::Read(entry_at(s, at, n), next)
@@ -150,14 +158,14 @@ pub fn make<'a>(sheet: &'a [u8], at: usize, left: usize) -> Reader<'a>
 
 // What the reader finds at its place.
 pub fn next<'a>(r: Reader<'a>) -> Step
-    ensures { λ t. ⌜ t ≡ stepAt plainLayout (now (r .entry .sheet)) (r .entry .at) (r .entry .left) ⌝ }
+    ensures { λ t. ⌜ t ≡ stepAt (layoutIn (now (r .entry .sheet))) (now (r .entry .sheet)) (r .entry .at) (r .entry .left) ⌝ }
 {
     step_at(r.sheet, r.at, r.left)
 }
 
 // What a reader at a place of a sheet finds.
 pub fn read_from(s: &[u8], at: usize, left: usize) -> Step
-    ensures { λ r. ⌜ r ≡ stepAt plainLayout (now (s .entry)) at left ⌝ }
+    ensures { λ r. ⌜ r ≡ stepAt (layoutIn (now (s .entry))) (now (s .entry)) at left ⌝ }
 {
     next(make(s, at, left))
 }

@@ -1,7 +1,7 @@
 -- `sheet::fault_at` tests a record's bytes by their places.
 use mathlib.Core.Path.{sym, _∙_}
 use borrow.Author.Tests.{le-leb, lt-leb, le-ltb, lt-ltb, eq-eqb, ne-eqb}
-use Rattle.sheet.proofs.Places.{front-at}
+use Rattle.sheet.proofs.Places.{front-at, no-tail}
 use borrow.Author.Needs.{needs}
 use Rattle.sheet.proofs.fault_at.Statement.{statement}
 use Rattle.sheet.proofs.fault_at.Tie as tie
@@ -45,12 +45,12 @@ is-known-requires c κs = search needs
 returns-5 : tie.Need-returns-5
 returns-5 c =
     rw (front-at, ← (c .before .before .before .before .before .before .long .ensures .0))
-    (simp (lt-leb _ _ (c .before .before .before .before .before .before .before .before .if1 .left), ne-eqb _ _ (c .before .before .before .before .before .if2 .left), le-ltb _ _ (c .before .before .before .before .if3 .left), le-ltb _ _ (c .before .before .before .if4 .left), sym (c .before .is-known .ensures) ∙ c .if5 .taken))
+    (simp (lt-leb _ _ (c .before .before .before .before .before .before .before .before .if1 .left), ne-eqb _ _ (c .before .before .before .before .before .if2 .left), le-ltb _ _ (c .before .before .before .before .if3 .left), le-ltb _ _ (c .before .before .before .if4 .left), no-tail, sym (c .before .is-known .ensures) ∙ c .if5 .taken))
 
 returns-6 : tie.Need-returns-6
 returns-6 c =
     rw (front-at, ← (c .before .before .before .before .before .before .long .ensures .0))
-    (simp (lt-leb _ _ (c .before .before .before .before .before .before .before .before .if1 .left), ne-eqb _ _ (c .before .before .before .before .before .if2 .left), le-ltb _ _ (c .before .before .before .before .if3 .left), le-ltb _ _ (c .before .before .before .if4 .left), sym (c .before .is-known .ensures) ∙ c .if5 .left))
+    (simp (lt-leb _ _ (c .before .before .before .before .before .before .before .before .if1 .left), ne-eqb _ _ (c .before .before .before .before .before .if2 .left), le-ltb _ _ (c .before .before .before .before .if3 .left), le-ltb _ _ (c .before .before .before .if4 .left), no-tail, sym (c .before .is-known .ensures) ∙ c .if5 .left))
 
 pub fault-at-spec : {M : Type 1} → statement M
 fault-at-spec =

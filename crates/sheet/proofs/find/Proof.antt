@@ -41,7 +41,7 @@ place-requires c κs = search needs
 
 shared-slice-read-long : tie.Need-shared-slice-read-long
 shared-slice-read-long c =
-    let h = hit (c .before .before .before) .here in
+    let h = hit (c .before .before .before) .fits in
     omega (arith, c .before .place .ensures)
 
 long-requires : tie.Need-long-requires
@@ -49,8 +49,8 @@ long-requires c κs = search needs
 
 entry-at-requires : tie.Need-entry-at-requires
 entry-at-requires c κs =
-    let h = rw (← c .before .before .place .ensures) at (hit (c .before .before .before .before) .here) in
-    (c .long .ensures .0, omega (arith, h .fits, c .long .ensures .0))
+    let h = rw (← c .before .before .place .ensures) at (hit (c .before .before .before .before) .fits) in
+    (c .long .ensures .0, omega (arith, c .long .ensures .0))
 
 returns-2 : tie.Need-returns-2
 returns-2 c =

@@ -42,7 +42,7 @@ use denote.Triple.Table.{entered, cited}
 use denote.Triple.Walked.{says, Stays, stay-none, walkOf, goes-none, Walks, ends-at, walked, walk-meets}
 use denote.Exit.{yes}
 use denote.Triple.Clauses.{ensured, lasts}
-use Rattle.sheet.specs.Layout.{plainLayout}
+use Rattle.sheet.specs.Layout.{layoutIn}
 use Rattle.sheet.specs.Sheet.{stepAt}
 use Rattle.sheet.specs.declared.Reader.{Reader}
 use Rattle.sheet.specs.declared.Step.{Step}
@@ -80,7 +80,7 @@ module _ {M : Type 1} (𝓤 : URA M) (H : Heap 𝓤) (A : Atoms 𝓤) (W : Given
   v = sliceVal (d .sheet .ptr) (length (d .sheet .now))
 
   abbrev found : Step
-  found = stepAt plainLayout (now (d .sheet)) (d .at) (d .left)
+  found = stepAt (layoutIn (now (d .sheet))) (now (d .sheet)) (d .at) (d .left)
 
   abbrev Post : Val → SProp 𝓤
   Post = walkOf 𝓤 H A next.ended stayed (next.clauses 𝓤 H A mem run) .post (((κ, tt), (q, tt), tt, (d, tt), (mach ∷ [], tt)), tt)

@@ -36,7 +36,7 @@ use denote.Triple.Table.{entered, cited}
 use denote.Triple.Walked.{says, Stays, stay-none-slice, walkOf, goes-none-slice, Walks, ends-at, walked, walk-meets, stay-none, goes-none}
 use denote.Exit.{yes}
 use denote.Triple.Clauses.{ensured, lasts}
-use Rattle.sheet.specs.Layout.{plainLayout}
+use Rattle.sheet.specs.Layout.{layoutIn}
 use Rattle.sheet.specs.Sheet.{stepAt}
 use Rattle.sheet.specs.declared.Reader.{Reader}
 use Rattle.sheet.specs.declared.Step.{Step}
@@ -79,7 +79,7 @@ module _ {M : Type 1} (𝓤 : URA M) (H : Heap 𝓤) (A : Atoms 𝓤) (W : Given
   v = sliceVal (s .ptr) (length (s .now))
 
   abbrev found : Step
-  found = stepAt plainLayout (now s) n m
+  found = stepAt (layoutIn (now s)) (now s) n m
 
   -- the struct's type as a local of a body has it
   abbrev αᵉ : NamedLft
@@ -111,13 +111,13 @@ module _ {M : Type 1} (𝓤 : URA M) (H : Heap 𝓤) (A : Atoms 𝓤) (W : Given
   goes-next : (r : Reader) (u : Val) → ent 𝓤 (⋆ 𝓤 H A (‵ (B (κ, tt) .own r (u ∷ [])) ∷ (‵ (flft κ q) ⊛ ‵ ftrue) ∷ [])) (Next 𝓤 H A mem run .pre (to-next r u))
   goes-next r u = qed W (‵ (B (κ, tt) .own r (u ∷ [])) ∷ (‵ (flft κ q) ⊛ ‵ ftrue) ∷ []) ∵ nothing ! $ move ! (1 ∷ 0 ∷ []) $ fjoin ! $ move ! (1 ∷ 0 ∷ []) $ join ! $ frame ! $ done !
 
-  next-said : (r : Reader) (t : Step) → ent 𝓤 (ensured 𝓤 H A next.ended (next.clauses 𝓤 H A mem run) (κ, tt) (r, tt) tt t) (fact 𝓤 (t ≡ stepAt plainLayout (now (r .sheet)) (r .at) (r .left)))
-  next-said r t = exE 𝓤 _ (λ ws. snd∗ 𝓤 (sem 𝓤 H A (lasts next.ended (κ, tt) (r, tt) ws)) (fact 𝓤 (t ≡ stepAt plainLayout (now (r .sheet)) (r .at) (r .left))))
+  next-said : (r : Reader) (t : Step) → ent 𝓤 (ensured 𝓤 H A next.ended (next.clauses 𝓤 H A mem run) (κ, tt) (r, tt) tt t) (fact 𝓤 (t ≡ stepAt (layoutIn (now (r .sheet))) (now (r .sheet)) (r .at) (r .left)))
+  next-said r t = exE 𝓤 _ (λ ws. snd∗ 𝓤 (sem 𝓤 H A (lasts next.ended (κ, tt) (r, tt) ws)) (fact 𝓤 (t ≡ stepAt (layoutIn (now (r .sheet))) (now (r .sheet)) (r .at) (r .left))))
 
-  same-place : (r : Reader) → (r .sheet ≡ s) × (r .at ≡ n) × (r .left ≡ m) → stepAt plainLayout (now (r .sheet)) (r .at) (r .left) ≡ found
+  same-place : (r : Reader) → (r .sheet ≡ s) × (r .at ≡ n) × (r .left ≡ m) → stepAt (layoutIn (now (r .sheet))) (now (r .sheet)) (r .at) (r .left) ≡ found
   same-place r e =
-      ap (λ (x : RefT (List ℕ)). stepAt plainLayout (now x) (r .at) (r .left)) (e .0)
-      ∙ (ap (λ (a : ℕ). stepAt plainLayout (now s) a (r .left)) (e .1) ∙ ap (stepAt plainLayout (now s) n) (e .2))
+      ap (λ (x : RefT (List ℕ)). stepAt (layoutIn (now x)) (now x) (r .at) (r .left)) (e .0)
+      ∙ (ap (λ (a : ℕ). stepAt (layoutIn (now s)) (now s) a (r .left)) (e .1) ∙ ap (stepAt (layoutIn (now s)) (now s) n) (e .2))
 
   exits : (t : Step) (u : Val) → t ≡ found → ent 𝓤 (⋆ 𝓤 H A (‵ (S.the-row .own t (u ∷ [])) ∷ (‵ (flft κ q) ⊛ ‵ ftrue) ∷ ‵ Own ∷ [])) (Post u)
   exits t u e =
@@ -140,7 +140,7 @@ module _ {M : Type 1} (𝓤 : URA M) (H : Heap 𝓤) (A : Atoms 𝓤) (W : Given
         use2 W (raw (Next 𝓤 H A mem run .pre (to-next r u))) (goes-next r u) $
         calls-at ! fm (Next 𝓤 H A mem run) known-next (to-next r u) (and-then ! (load ! (from ! (stop !)) (look ! 2 refl)) (no-more !)) (λ u′.
         use1 W (later (some (λ (t : Step). ((‵ (flft κ q) ⊛ ‵ ftrue) ⊛ ‵ (S.the-row .own t (u′ ∷ []))) ⊛ raw (ensured 𝓤 H A next.ended (next.clauses 𝓤 H A mem run) (κ, tt) (r, tt) tt t)))) (id⊢ 𝓤 _) $ await ! tt $ pick ! (λ t.
-        split ! $ move ! (1 ∷ []) $ use1 W (raw (fact 𝓤 (t ≡ stepAt plainLayout (now (r .sheet)) (r .at) (r .left)))) (next-said r t) $ heard ! (t ≡ stepAt plainLayout (now (r .sheet)) (r .at) (r .left)) (λ e′. split ! $ move ! (1 ∷ []) $
+        split ! $ move ! (1 ∷ []) $ use1 W (raw (fact 𝓤 (t ≡ stepAt (layoutIn (now (r .sheet))) (now (r .sheet)) (r .at) (r .left)))) (next-said r t) $ heard ! (t ≡ stepAt (layoutIn (now (r .sheet))) (now (r .sheet)) (r .at) (r .left)) (λ e′. split ! $ move ! (1 ∷ []) $
         -- [the result; the token; what s owns; _2; …; _1; …; room for _0; …]
         peeks ! S.the-row (Is S.the-row) (shows 𝓤 H A S.the-row) t (u′ ∷ []) (λ is′.
         land ! (from ! (stop !)) (init ! 11 refl (EL.lawful S.the-type S′.the-laws 𝓤 H A W tt .typed t _ is′ .0)) $

@@ -2,7 +2,7 @@
 use mathlib.Core.Path.{refl, sym, _∙_}
 use denote.Ref.{now}
 use native.Mathlib.Omega.{arith}
-use Rattle.sheet.specs.Layout.{plainLayout}
+use Rattle.sheet.specs.Layout.{layoutIn}
 use Rattle.sheet.proofs.Turns.{Walking, walking-ends, walking-goes, stops-refused, stops-end, goes}
 use borrow.Author.Needs.{needs}
 use Rattle.sheet.proofs.walk_records.Statement.{statement}
@@ -29,7 +29,7 @@ returns c =
     let at-loop = c .before .before .before .before .loop in
     let s = now (start .s) in
     walking-ends s (start .records) (at-loop .left) (at-loop .at) (at-loop .i) (c .before .number .given .0 .0) (at-loop .starts) (at-loop .inv)
-    (stops-refused plainLayout s (at-loop .at) (at-loop .left) (c .before .number .given .0 .0) (sym (c .before .before .before .read-from .ensures) ∙ c .before .number .given .1))
+    (stops-refused (layoutIn s) s (at-loop .at) (at-loop .left) (c .before .number .given .0 .0) (sym (c .before .before .before .read-from .ensures) ∙ c .before .number .given .1))
 
 enum-told : tie.Need-enum-told Inv-loop μ-loop
 enum-told c = search needs
@@ -40,7 +40,7 @@ returns-2 c =
     let at-loop = c .before .before .before .loop in
     let s = now (start .s) in
     walking-ends s (start .records) (at-loop .left) (at-loop .at) (at-loop .i) 0 (at-loop .starts) (at-loop .inv)
-    (stops-end plainLayout s (at-loop .at) (at-loop .left) (sym (c .before .before .read-from .ensures) ∙ c .enum-told .given .1))
+    (stops-end (layoutIn s) s (at-loop .at) (at-loop .left) (sym (c .before .before .read-from .ensures) ∙ c .enum-told .given .1))
 
 enum-known-next : tie.Need-enum-known-next Inv-loop μ-loop
 enum-known-next c = search needs
@@ -51,8 +51,7 @@ cast-starts c =
     let at-loop = c .before .before .before .before .loop in
     let s = now (start .s) in
     let v = c .before .next .given .0 in
-    let g = goes s (at-loop .at) (at-loop .left) (v .0) (v .1 .0) (sym (c .before .before .before .read-from .ensures) ∙ c .before .next .given .1) in
-    let h = g .here in
+    let g = goes (layoutIn s) s (at-loop .at) (at-loop .left) (v .0) (v .1 .0) (sym (c .before .before .before .read-from .ensures) ∙ c .before .next .given .1) in
     let w = at-loop .inv in
     record { fits = omega arith }
 
@@ -62,8 +61,7 @@ mul-starts c =
     let at-loop = c .before .before .before .before .loop in
     let s = now (start .s) in
     let v = c .before .next .given .0 in
-    let g = goes s (at-loop .at) (at-loop .left) (v .0) (v .1 .0) (sym (c .before .before .before .read-from .ensures) ∙ c .before .next .given .1) in
-    let h = g .here in
+    let g = goes (layoutIn s) s (at-loop .at) (at-loop .left) (v .0) (v .1 .0) (sym (c .before .before .before .read-from .ensures) ∙ c .before .next .given .1) in
     let w = at-loop .inv in
     record { fits = omega arith }
 
@@ -73,8 +71,7 @@ element-write-starts c =
     let at-loop = c .before .before .before .before .loop in
     let s = now (start .s) in
     let v = c .before .next .given .0 in
-    let g = goes s (at-loop .at) (at-loop .left) (v .0) (v .1 .0) (sym (c .before .before .before .read-from .ensures) ∙ c .before .next .given .1) in
-    let h = g .here in
+    let g = goes (layoutIn s) s (at-loop .at) (at-loop .left) (v .0) (v .1 .0) (sym (c .before .before .before .read-from .ensures) ∙ c .before .next .given .1) in
     let w = at-loop .inv in
     omega arith
 
@@ -84,8 +81,7 @@ add-i c =
     let at-loop = c .before .before .before .before .loop in
     let s = now (start .s) in
     let v = c .before .next .given .0 in
-    let g = goes s (at-loop .at) (at-loop .left) (v .0) (v .1 .0) (sym (c .before .before .before .read-from .ensures) ∙ c .before .next .given .1) in
-    let h = g .here in
+    let g = goes (layoutIn s) s (at-loop .at) (at-loop .left) (v .0) (v .1 .0) (sym (c .before .before .before .read-from .ensures) ∙ c .before .next .given .1) in
     let w = at-loop .inv in
     record { fits = omega arith }
 
@@ -95,8 +91,7 @@ loop-less c =
     let at-loop = c .before .before .before .before .loop in
     let s = now (start .s) in
     let v = c .before .next .given .0 in
-    let g = goes s (at-loop .at) (at-loop .left) (v .0) (v .1 .0) (sym (c .before .before .before .read-from .ensures) ∙ c .before .next .given .1) in
-    let h = g .here in
+    let g = goes (layoutIn s) s (at-loop .at) (at-loop .left) (v .0) (v .1 .0) (sym (c .before .before .before .read-from .ensures) ∙ c .before .next .given .1) in
     let w = at-loop .inv in
     omega (arith, g .fewer)
 
@@ -106,8 +101,7 @@ loop-again c =
     let at-loop = c .before .before .before .before .loop in
     let s = now (start .s) in
     let v = c .before .next .given .0 in
-    let g = goes s (at-loop .at) (at-loop .left) (v .0) (v .1 .0) (sym (c .before .before .before .read-from .ensures) ∙ c .before .next .given .1) in
-    let h = g .here in
+    let g = goes (layoutIn s) s (at-loop .at) (at-loop .left) (v .0) (v .1 .0) (sym (c .before .before .before .read-from .ensures) ∙ c .before .next .given .1) in
     let w = at-loop .inv in
     walking-goes s (start .records) (at-loop .left) (at-loop .at) (at-loop .i) (at-loop .starts) (v .1 .0) (c .before .before .before .before .before .before .pre .0) w g
 
