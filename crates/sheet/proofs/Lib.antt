@@ -9,3 +9,5 @@ pub mod Turns
 pub mod Locate
 pub mod Kept
 pub mod Local
+pub mod Entries
+pub mod Pages

@@ -13,7 +13,7 @@ use Rattle.octets.specs.Bytes.{numberAt}
 use Rattle.sheet.specs.Layout.{Layout}
 use Rattle.sheet.specs.Sheet.{Fields, bad, front, frontOf, fieldsOf}
 
-number-append : (k at : ℕ) (u more : List ℕ) → at + k ≤ length u → numberAt k (u ++ more) at ≡ numberAt k u at
+pub number-append : (k at : ℕ) (u more : List ℕ) → at + k ≤ length u → numberAt k (u ++ more) at ≡ numberAt k u at
 unfolding numberAt
 number-append k at u more h =
     let a : at ≤ length u = omega arith in

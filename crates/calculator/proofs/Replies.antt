@@ -1,0 +1,54 @@
+-- What a search finds and holds follows from the sheet's page: the places of its records do not matter.
+use mathlib.Core.List.{List}
+use mathlib.Core.Path.{_≡_, refl, sym, ap, _∙_}
+use Prim.Native.Nat.{ℕ}
+use Rattle.octets.specs.Room.{Text, text, refused}
+use Rattle.name.specs.Name.{nameOf}
+use Rattle.sheet.specs.declared.Lookup.{Lookup}
+use Rattle.sheet.specs.declared.Lookup.the-variants.{Hit, Miss}
+use Rattle.sheet.specs.declared.Record.{Record}
+use Rattle.sheet.specs.Find.{handedBack}
+use Rattle.sheet.specs.Sheet
+use Rattle.sheet.specs.Sheet.{Sheet, records, sheetOf}
+use Rattle.sheet.proofs.Pages.{Page, without, with, pageOf, Reply, missed, found, replyOf, findOn, find-page, replyName, name-reply}
+use Rattle.air.specs.Held.{Held, refuses}
+use Rattle.air.specs.Choices.{Choices}
+use Rattle.air.specs.State.{answerBy}
+use Rattle.calculator.specs.Search.{locateName, locateIn, locate, answerAt, searchBy}
+
+abbrev locateOn : Text → Page → Reply
+locateOn t (without k) = missed k
+locateOn (refused k) (with es) = missed k
+locateOn (text name) (with es) = findOn (with es) name
+
+locate-page : (s spelling : List ℕ) → replyOf s (locate s spelling) ≡ locateOn (nameOf spelling) (pageOf s (sheetOf s))
+unfolding locate
+locate-page s spelling = go (sheetOf s)
+  where
+    named : (rs : List Record) (t : Text) → replyOf s (locateName s rs t) ≡ locateOn t (pageOf s (records rs))
+    named rs (refused k) = refl
+    named rs (text name) = find-page s name (records rs)
+
+    go : (t : Sheet) → replyOf s (locateIn s spelling t) ≡ locateOn (nameOf spelling) (pageOf s t)
+    go (Sheet.refused k) = refl
+    go (records rs) = named rs (nameOf spelling)
+
+abbrev replyHeld : Choices → Reply → Held
+replyHeld c (missed k) = refuses k
+replyHeld c (found e) = answerBy c (e .kind) (e .first) (e .second)
+
+held-reply : (c : Choices) (s : List ℕ) (l : Lookup) → answerAt c l ≡ replyHeld c (replyOf s l)
+held-reply c s (Miss k) = refl
+held-reply c s (Hit r) = refl
+
+module _ (s t spelling : List ℕ) (e : pageOf s (sheetOf s) ≡ pageOf t (sheetOf t)) where
+  same-reply : replyOf s (locate s spelling) ≡ replyOf t (locate t spelling)
+  same-reply = locate-page s spelling ∙ ap (locateOn (nameOf spelling)) e ∙ sym (locate-page t spelling)
+
+  -- two sheets with one page: a search finds the same name, and whatever the choices holds the same
+  pub same-name : handedBack s (locate s spelling) ≡ handedBack t (locate t spelling)
+  same-name = name-reply s (locate s spelling) ∙ ap replyName same-reply ∙ sym (name-reply t (locate t spelling))
+
+  pub same-search : (c : Choices) → searchBy c s spelling ≡ searchBy c t spelling
+  unfolding searchBy
+  same-search c = held-reply c s (locate s spelling) ∙ ap (replyHeld c) same-reply ∙ sym (held-reply c t (locate t spelling))
