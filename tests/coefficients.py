@@ -1,13 +1,16 @@
-"""Compares every number of the tables in crates/tgas, in specs/ and in src/, with tests/listing/*.txt: the numerals as
+"""Compares every number of the listing crates' tables, in specs/ and in src/, with tests/listing/*.txt: the numerals as
 source document 000 prints them, by label and name. A number that differs, is missing or stands elsewhere fails."""
 
 import re
 import sys
-from decimal import Decimal
+from decimal import ROUND_HALF_UP, Decimal
 from pathlib import Path
 
 ROOT = Path(__file__).resolve().parent.parent
-TGAS = ROOT / "crates" / "tgas"
+CRATES = ROOT / "crates"
+
+# each listing's crate and the file of its tables in specs/; the bands' own crate has the ends
+TABLES = {"temperature": ("tgas1_temperature", "Pieces.antt"), "entropy": ("tgas2_entropy", "Entropy.antt")}
 
 # the listing's labels, in the order of a band's pieces
 TEMPERATURE = {"low": (310, 320, 330, 340), "middle": (360, 370, 380, 390), "high": (410, 420, 430)}
@@ -24,19 +27,19 @@ def printed(file):
         label, name, *numerals = line.split()
         if (int(label), name) in rows:
             sys.exit(f"{file}: {label} {name} stands twice")
-        rows[int(label), name] = [whole(Decimal(n) * 10**10, line) for n in numerals]
+        rows[int(label), name] = [nearest(Decimal(n) * 10**10) for n in numerals]
     return rows
 
 
-def whole(value, line):
-    if value != int(value):
-        sys.exit(f"not a whole number of 10^-10: {line}")
-    return int(value)
+def nearest(value):
+    """the nearest whole unit, a tie away from zero"""
+    return int(value.quantize(Decimal(1), ROUND_HALF_UP))
 
 
-def spec_lists(file):
+def spec_lists(kind):
     """name of a definition, to its numbers"""
-    text = (TGAS / "specs" / file).read_text()
+    crate, file = TABLES[kind]
+    text = (CRATES / crate / "specs" / file).read_text()
     lists = {}
     for name, body in re.findall(r"^(\S+) =\n((?:    .*\n)+)", text, re.M):
         numbers = re.findall(r"\b([pm]) (\d+)_(\d{10})\b", body)
@@ -45,9 +48,10 @@ def spec_lists(file):
     return lists
 
 
-def code_lists(file):
+def code_lists(kind):
     """name of the definition that a function ensures, to the numbers that it returns"""
-    text = (TGAS / "src" / file).read_text()
+    file = CRATES / TABLES[kind][0] / "src" / "lib.rt"
+    text = file.read_text()
     lists = {}
 
     def take(name, body, length):
@@ -85,16 +89,17 @@ def same(what, have, want):
 
 def ends(temperature, entropy):
     """the pieces' ends and the limits of Z, in millionths"""
-    spec = (TGAS / "specs" / "Temperature.antt").read_text()
-    code = (TGAS / "src" / "lib.rt").read_text()
+    spec = (CRATES / "bands" / "specs" / "Region.antt").read_text()
+    code = (CRATES / "bands" / "src" / "lib.rt").read_text()
     for band, labels in TEMPERATURE.items():
         want = [n // 10**4 for label in labels[:-1] for n in temperature.pop((label, "END"))]
         line = re.search(rf"^temperatureEnds {band.title()} = (.*)$", spec, re.M).group(1)
         same(f"specs, ends of {band}", [int(n) for n in re.findall(r"pos (\d+)", line)], want)
         call = re.search(rf"Band::{band.title()} => \w+\(z, ([^)]*)\)", code).group(1)
         same(f"src, ends of {band}", [int(n) for n in call.split(",")], want)
-    spec = (TGAS / "specs" / "Entropy.antt").read_text()
-    code = (TGAS / "src" / "entropy.rt").read_text()
+    crate, file = TABLES["entropy"]
+    spec = (CRATES / crate / "specs" / file).read_text()
+    code = (CRATES / crate / "src" / "lib.rt").read_text()
     for band, label in ENTROPY.items():
         want = entropy.pop((label, "LIMIT"))[0] // 10**4
         same(f"specs, limit of {band}", int(re.search(rf"^entropyLimit {band.title()} = pos (\d+)$", spec, re.M).group(1)), want)
@@ -107,11 +112,7 @@ def main():
     ends(temperature, entropy)
     same("rows of the listing that no table has", list(temperature) + list(entropy), [])
     for where, read in (("specs", spec_lists), ("src", code_lists)):
-        suffix = "antt" if where == "specs" else "rt"
-        have = {}
-        for kind in ("temperature", "entropy"):
-            file = f"{kind.title() if where == 'specs' else kind}.{suffix}"
-            have.update({(kind, name): numbers for name, numbers in read(file).items()})
+        have = {(kind, name): numbers for kind in TABLES for name, numbers in read(kind).items()}
         same(f"{where}: the tables' names", sorted(have), sorted(lists))
         for key, numbers in lists.items():
             same(f"{where}: {' '.join(key)}", have[key], numbers)

@@ -12,9 +12,9 @@ use Rattle.logarithm.specs.Log.{IsLog}
 use Rattle.logarithm.proofs.Ratios.{log-is}
 use Rattle.power.proofs.Kelvin.{power-is}
 use Rattle.weight.proofs.Near.{weight-is}
-use Rattle.tgas.specs.declared.Region.{Region}
-use Rattle.tgas.specs.declared.Region.the-variants.{Refused, Perfect, Fitted}
-use Rattle.tgas.specs.Region.{regionOf}
+use Rattle.bands.specs.declared.Region.{Region}
+use Rattle.bands.specs.declared.Region.the-variants.{Refused, Perfect, Fitted}
+use Rattle.bands.specs.Region.{regionOf}
 use Rattle.kind.specs.Kind.{kindOf}
 use Rattle.kind.specs.declared.Kind.{Kind}
 use Rattle.kind.specs.declared.Kind.the-variants.{Temperature, Entropy, Unknown}

@@ -10,11 +10,11 @@ use lib.Signed.{_≤ℤ_, ltZ, leZ-yes, ltZ-no, clashℤ}
 use Rattle.logarithm.specs.Log.{IsLog}
 use Rattle.integer.specs.Z.{up, dn}
 use Rattle.logarithm.proofs.Range.{log-least, log-most}
-use Rattle.tgas.specs.Bands.{bandOf}
-use Rattle.tgas.specs.Temperature.{temperatureIndex}
-use Rattle.tgas.specs.declared.Region.{Region}
-use Rattle.tgas.specs.declared.Region.the-variants.{Refused, Perfect, Fitted}
-use Rattle.tgas.specs.Region.{regionOf, pickRegion, beyondWindow, isPerfect}
+use Rattle.bands.specs.Bands.{bandOf}
+use Rattle.bands.specs.Region.{temperatureIndex}
+use Rattle.bands.specs.declared.Region.{Region}
+use Rattle.bands.specs.declared.Region.the-variants.{Refused, Perfect, Fitted}
+use Rattle.bands.specs.Region.{regionOf, pickRegion, beyondWindow, isPerfect}
 use Rattle.perfect.specs.Perfect.{perfectGas}
 use Rattle.kind.specs.Kind.{kindOf}
 use Rattle.kind.specs.declared.Kind.{Kind}
@@ -120,7 +120,7 @@ module _ (n : ℕ) (n-least : 128 ≤ n) (p d : ℕ) (in-density : T (isDensity 
       at a b = pickRegion a Refused (pickRegion b Perfect (Fitted (bandOf (l .y)) (temperatureIndex (bandOf (l .y)) (l .z))))
 
       go : (a b : Bool) → beyondWindow (l .z) ≡ a → isPerfect (l .z) ≡ b → IsTemperatureIn (at a b) p d l h → TemperatureClaim n p d h
-      go true b e₁ e₂ s = absurd (no-true e₁ (subst (λ (x : Held). T (not (refusesLogs temperatureProperty (x .logs)))) s (ok .no-12)))
+      go true b e₁ e₂ s = absurd (no-true e₁ (subst (λ (x : Held). T (not (refusesLogs temperatureProperty (x .logs)))) s (ok .by-logs)))
       go false true e₁ e₂ s = subst (TemperatureClaim n p d) (sym s) (perfect-claim e₂)
       go false false e₁ e₂ s = from-fit h ok e₁ e₂ s
 
@@ -136,7 +136,7 @@ entropy-claim e d h ok it = go (beyondEntropy l) refl (it .is)
     l = it .logs
 
     go : (a : Bool) → beyondEntropy l ≡ a → h ≡ cond a (judges 12 letterS l Unfitted) (shows letterS l Unfitted Unjoined (entropyOf (l .y) (l .z))) → EntropyClaim e d h
-    go true e₁ is = absurd (no-true e₁ (subst (λ (x : Held). T (not (refusesLogs entropyProperty (x .logs)))) is (ok .no-12)))
+    go true e₁ is = absurd (no-true e₁ (subst (λ (x : Held). T (not (refusesLogs entropyProperty (x .logs)))) is (ok .by-logs)))
     go false e₁ is =
         subst (EntropyClaim e d) (sym is)
         (record {

@@ -13,12 +13,12 @@ use Rattle.fraction.specs.Fraction.{Fraction, Within, whole, parts, plus, minus
 use Rattle.fit.specs.Fit.{bicubic, straight}
 use Rattle.fit.specs.Exact.{exactly, exactBicubic}
 use Rattle.fit.proofs.Near.{near-whole, near-plus, near-more, near-down, near-scaled, stands, bicubic-near, near-straight}
-use Rattle.tgas.specs.declared.Band.{Band}
-use Rattle.tgas.specs.declared.Band.the-variants.{Low, Middle, High}
-use Rattle.tgas.specs.declared.Strip.{Strip}
-use Rattle.tgas.specs.declared.Strip.the-variants.{Clear, Between}
-use Rattle.tgas.specs.Bands.{bandOf, lowEdge, highEdge, inside, pickStrip, stripOf}
-use Rattle.tgas.specs.Entropy.{entropyCoefficients, entropyLimit}
+use Rattle.bands.specs.declared.Band.{Band}
+use Rattle.bands.specs.declared.Band.the-variants.{Low, Middle, High}
+use Rattle.bands.specs.declared.Strip.{Strip}
+use Rattle.bands.specs.declared.Strip.the-variants.{Clear, Between}
+use Rattle.bands.specs.Bands.{bandOf, lowEdge, highEdge, inside, pickStrip, stripOf}
+use Rattle.tgas2_entropy.specs.Entropy.{entropyCoefficients, entropyLimit}
 use Rattle.perfect.specs.Perfect.{R}
 use Rattle.air.specs.Entropy.{rise, perfectEntropy, fittedEntropy, entropyAt, entropyOf, aboveLimit}
 use Rattle.air.specs.Join.{joined, exactJoined, anyPlace}

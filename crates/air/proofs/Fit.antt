@@ -11,11 +11,12 @@ use Rattle.weight.specs.Weight.{tolerance}
 use Rattle.fit.specs.Fit.{Weighs, fitted}
 use Rattle.fit.proofs.Size.{size}
 use Rattle.fit.proofs.Distance.{Box, distance, allWithin, table-near}
-use Rattle.tgas.specs.declared.Band.{Band}
-use Rattle.tgas.specs.declared.Band.the-variants.{Low, Middle, High}
-use Rattle.tgas.specs.Bands.{bandOf}
-use Rattle.tgas.specs.Temperature.{temperatureEnds, temperaturePieces, temperatureIndex}
-use Rattle.tgas.proofs.Bounds.{boxes, in-box, widest, widest-holds}
+use Rattle.bands.specs.declared.Band.{Band}
+use Rattle.bands.specs.declared.Band.the-variants.{Low, Middle, High}
+use Rattle.bands.specs.Bands.{bandOf}
+use Rattle.bands.specs.Region.{temperatureEnds, temperatureIndex}
+use Rattle.tgas1_temperature.specs.Pieces.{temperaturePieces}
+use Rattle.air.proofs.Boxes.{boxes, in-box, widest, widest-holds}
 use Rattle.air.specs.Temperature.{pieceAt}
 use Rattle.air.specs.Exact.{exactTemperatureFit}
 use Rattle.air.specs.Accurate.{fitDistance}

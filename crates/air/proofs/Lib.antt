@@ -1,3 +1,4 @@
+pub mod Boxes
 pub mod Tests
 pub mod Places
 pub mod Between

@@ -10,8 +10,8 @@ use Rattle.fit.specs.declared.Edge.{Edge}
 use Rattle.fit.specs.Fit.{Piece, alone, joint, Weighs, fitted}
 use Rattle.fit.specs.Edge.{weightWith}
 use Rattle.fit.specs.Exact.{exactFit}
-use Rattle.tgas.specs.declared.Strip.{Strip}
-use Rattle.tgas.specs.declared.Strip.the-variants.{Clear, Between}
+use Rattle.bands.specs.declared.Strip.{Strip}
+use Rattle.bands.specs.declared.Strip.the-variants.{Clear, Between}
 use Rattle.air.specs.declared.Logs.{Logs}
 use Rattle.air.specs.declared.Edges.the-variants.{Unfitted}
 use Rattle.air.specs.Held.{Held, judges}
@@ -103,6 +103,6 @@ module _ (d n : ℕ) (r : Rule) (Claimed : Fraction → ℤ → ℤ → Type 0) 
       go : (a b : Bool) → anyPlace s (λ x. r .beyondLogs x (l .z)) (l .y) ≡ a → anyPlace s (λ x. r .beyondFit (q x .edge .fit)) (l .y) ≡ b
           → h ≡ cond a (judges (r .logsNumber) (r .letter) l Unfitted) (cond b (judges (r .fitNumber) (r .letter) l (edgesAt s q (l .y))) (showsAt r s l q))
           → FitClaim d n r Claimed s l h
-      go true b e₁ e₂ is = absurd (no-true e₁ (j .by-logs (subst (λ (x : Held). T (not (refusesLogs k (x .logs)))) is (ok .no-12))))
-      go false true e₁ e₂ is = absurd (no-true e₂ (judged k r (j .by-fit) s q (l .y) (subst (λ (x : Held). NoEdgeRefused k (x .edges)) is (ok .no-13))))
+      go true b e₁ e₂ is = absurd (no-true e₁ (j .by-logs (subst (λ (x : Held). T (not (refusesLogs k (x .logs)))) is (ok .by-logs))))
+      go false true e₁ e₂ is = absurd (no-true e₂ (judged k r (j .by-fit) s q (l .y) (subst (λ (x : Held). NoEdgeRefused k (x .edges)) is (ok .by-fit))))
       go false false e₁ e₂ is = record { point = q; is = is; points = points-claim s (l .y) (l .z) q box (it .points) (is-false e₂) }

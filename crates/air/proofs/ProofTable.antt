@@ -6,9 +6,9 @@ use mathlib.Core.Path.{_≡_, refl, ap, _∙_, subst}
 use Prim.Native.Nat.{ℕ, _*_, _^_}
 use lib.IntN.{ℤ, pos, _-ℤ_}
 use Rattle.fit.specs.Fit.{mul, gas1, gas2, gas3, gas4, bicubic}
-use Rattle.tgas.specs.Temperature.{temperaturePieces}
-use Rattle.tgas.specs.Region.{regionOf}
-use Rattle.tgas.specs.Entropy.{entropyCoefficients}
+use Rattle.tgas1_temperature.specs.Pieces.{temperaturePieces}
+use Rattle.bands.specs.Region.{regionOf}
+use Rattle.tgas2_entropy.specs.Entropy.{entropyCoefficients}
 use Rattle.logarithm.specs.Log.{IsLog}
 use Rattle.logarithm.proofs.Exact.{exact-power}
 use Rattle.perfect.specs.Perfect.{perfectGas}

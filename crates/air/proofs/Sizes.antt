@@ -15,9 +15,9 @@ use Rattle.fit.proofs.Size.{size, bicubic-size-all}
 use Rattle.fit.proofs.Floors.{quotient-upto}
 use Rattle.fit.proofs.Machine.{all-at}
 use Rattle.fit.proofs.Scaling.{entropy-rise-size}
-use Rattle.tgas.specs.Bands.{bandOf}
-use Rattle.tgas.specs.Entropy.{entropyCoefficients}
-use Rattle.tgas.proofs.Pieces.{entropy-small}
+use Rattle.bands.specs.Bands.{bandOf}
+use Rattle.tgas2_entropy.specs.Entropy.{entropyCoefficients}
+use Rattle.tgas2_entropy.proofs.Sizes.{entropy-small}
 use Rattle.perfect.specs.Perfect.{R}
 use Rattle.air.specs.Entropy.{rise, perfectEntropy, fittedEntropy, entropyAt}
 

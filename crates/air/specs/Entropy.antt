@@ -6,9 +6,9 @@ use lib.IntN.{ℤ, pos, _+ℤ_, _-ℤ_, _*ℤ_}
 use lib.Signed.{leZ, ltZ, shrZ}
 use Rattle.logarithm.specs.Log.{IsLog}
 use Rattle.fit.specs.Fit.{bicubic}
-use Rattle.tgas.specs.declared.Strip.{Strip}
-use Rattle.tgas.specs.Bands.{bandOf, stripOf}
-use Rattle.tgas.specs.Entropy.{entropyCoefficients, entropyLimit}
+use Rattle.bands.specs.declared.Strip.{Strip}
+use Rattle.bands.specs.Bands.{bandOf, stripOf}
+use Rattle.tgas2_entropy.specs.Entropy.{entropyCoefficients, entropyLimit}
 use Rattle.perfect.specs.Perfect.{R}
 use Rattle.air.specs.declared.Logs.{Logs}
 use Rattle.air.specs.declared.Edges.the-variants.{Unfitted}

@@ -5,8 +5,8 @@ use lib.IntN.{ℤ, pos, _*ℤ_}
 use lib.Signed.{leZ}
 use Rattle.fraction.specs.Fraction.{Fraction, whole, parts, plus, times, over}
 use Rattle.fit.specs.Exact.{exactly, exactBicubic, exactFit}
-use Rattle.tgas.specs.Bands.{bandOf, stripOf}
-use Rattle.tgas.specs.Entropy.{entropyCoefficients}
+use Rattle.bands.specs.Bands.{bandOf, stripOf}
+use Rattle.tgas2_entropy.specs.Entropy.{entropyCoefficients}
 use Rattle.perfect.specs.Perfect.{R}
 use Rattle.air.specs.Temperature.{pieceAt}
 use Rattle.air.specs.Entropy.{rise}

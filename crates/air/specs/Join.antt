@@ -3,8 +3,8 @@ use mathlib.Core.Bool.{Bool, _||_}
 use lib.IntN.{ℤ, natAbs, _-ℤ_}
 use Rattle.fraction.specs.Fraction.{Fraction, parts, plus, minus, times}
 use Rattle.fit.specs.Fit.{straight}
-use Rattle.tgas.specs.declared.Strip.{Strip}
-use Rattle.tgas.specs.declared.Strip.the-variants.{Clear, Between}
+use Rattle.bands.specs.declared.Strip.{Strip}
+use Rattle.bands.specs.declared.Strip.the-variants.{Clear, Between}
 
 -- the straight line over exact fractions
 abbrev pub exactStraight : ℤ → ℤ → Fraction → Fraction → ℤ → Fraction

@@ -11,8 +11,8 @@ use Rattle.fit.specs.declared.Edge.{Edge}
 use Rattle.fit.specs.Fit.{Piece, Weighs, fitted}
 use Rattle.fit.specs.Edge.{edgeWith}
 use Rattle.fit.specs.Exact.{exactFit}
-use Rattle.tgas.specs.declared.Strip.{Strip}
-use Rattle.tgas.specs.declared.Strip.the-variants.{Clear, Between}
+use Rattle.bands.specs.declared.Strip.{Strip}
+use Rattle.bands.specs.declared.Strip.the-variants.{Clear, Between}
 use Rattle.air.specs.declared.Logs.{Logs}
 use Rattle.air.specs.declared.Edges.{Edges}
 use Rattle.air.specs.declared.Edges.the-variants.{Unfitted, One, Two}

@@ -5,12 +5,12 @@ use mathlib.Core.Path.{_≡_}
 use Prim.Native.Nat.{ℕ}
 use lib.IntN.{ℤ, pos, negℤ}
 use Rattle.fit.specs.Fit.{fitted}
-use Rattle.tgas.specs.declared.Band.{Band}
-use Rattle.tgas.specs.declared.Band.the-variants.{Low, Middle, High}
-use Rattle.tgas.specs.Bands.{bandOf}
-use Rattle.tgas.specs.declared.Region.{Region}
-use Rattle.tgas.specs.declared.Region.the-variants.{Perfect, Fitted}
-use Rattle.tgas.specs.Region.{regionOf}
+use Rattle.bands.specs.declared.Band.{Band}
+use Rattle.bands.specs.declared.Band.the-variants.{Low, Middle, High}
+use Rattle.bands.specs.Bands.{bandOf}
+use Rattle.bands.specs.declared.Region.{Region}
+use Rattle.bands.specs.declared.Region.the-variants.{Perfect, Fitted}
+use Rattle.bands.specs.Region.{regionOf}
 use Rattle.air.specs.declared.Answer.{Answer}
 use Rattle.air.specs.Quantities.{P0, D0, E0}
 use Rattle.air.specs.Held.{held}

@@ -5,9 +5,9 @@ use mathlib.Core.Path.{_≡_}
 use Prim.Native.Nat.{ℕ}
 use lib.Dec.{T}
 use lib.IntN.{ℤ, pos, natAbs, _-ℤ_}
-use Rattle.tgas.specs.declared.Region.{Region}
-use Rattle.tgas.specs.declared.Region.the-variants.{Refused, Perfect, Fitted}
-use Rattle.tgas.specs.Region.{regionOf, beyondWindow}
+use Rattle.bands.specs.declared.Region.{Region}
+use Rattle.bands.specs.declared.Region.the-variants.{Refused, Perfect, Fitted}
+use Rattle.bands.specs.Region.{regionOf, beyondWindow}
 use Rattle.kind.specs.declared.Kind.{Kind}
 use Rattle.kind.specs.declared.Kind.the-variants.{Temperature, Entropy, Unknown}
 use Rattle.kind.specs.Kind.{kindOf}
@@ -128,8 +128,8 @@ pub data NoEdgeRefused (k : Property) : Edges → Type 0 where
 pub record AcceptedBy (k : Property) (v w : ℕ) (h : Held) : Type 0 where
   pub no-10 : T (k .isFirst v)
   pub no-11 : T (k .isSecond w)
-  pub no-12 : T (not (refusesLogs k (h .logs)))
-  pub no-13 : NoEdgeRefused k (h .edges)
+  pub by-logs : T (not (refusesLogs k (h .logs)))
+  pub by-fit : NoEdgeRefused k (h .edges)
 
 abbrev pub AcceptedAny : Option Property → ℕ → ℕ → Held → Type 0
 AcceptedAny none v w h = ⊥

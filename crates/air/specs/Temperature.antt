@@ -7,13 +7,14 @@ use lib.Signed.{ltZ, shrZ}
 use Rattle.logarithm.specs.Log.{IsLog}
 use Rattle.power.specs.Power.{IsPower}
 use Rattle.fit.specs.Fit.{Piece}
-use Rattle.tgas.specs.declared.Strip.{Strip}
-use Rattle.tgas.specs.declared.Strip.the-variants.{Clear}
-use Rattle.tgas.specs.Bands.{bandOf}
-use Rattle.tgas.specs.Temperature.{temperatureIndex, temperaturePiece}
-use Rattle.tgas.specs.declared.Region.{Region}
-use Rattle.tgas.specs.declared.Region.the-variants.{Refused, Perfect, Fitted}
-use Rattle.tgas.specs.Region.{regionOf}
+use Rattle.bands.specs.declared.Strip.{Strip}
+use Rattle.bands.specs.declared.Strip.the-variants.{Clear}
+use Rattle.bands.specs.Bands.{bandOf}
+use Rattle.bands.specs.Region.{temperatureIndex}
+use Rattle.tgas1_temperature.specs.Pieces.{temperaturePiece}
+use Rattle.bands.specs.declared.Region.{Region}
+use Rattle.bands.specs.declared.Region.the-variants.{Refused, Perfect, Fitted}
+use Rattle.bands.specs.Region.{regionOf}
 use Rattle.perfect.specs.Perfect.{perfectGas}
 use Rattle.air.specs.declared.Logs.{Logs}
 use Rattle.air.specs.declared.Edges.the-variants.{Unfitted}

@@ -1,4 +1,6 @@
 // A state of equilibrium air: what its answer is. Definitions and theorems; crates above work it out.
+pub mod answers;
+
 use fit::Edge;
 ghost use mathlib.Core.Path.{_≡_};
 ghost use Rattle.air.specs.Quantities.{within};

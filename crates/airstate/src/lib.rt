@@ -1,262 +1,22 @@
 // The C interface: thin entries over the proved crates. No entry keeps state, and none asks anything of its caller.
-use air::Answer;
-use air::Edges;
-use air::Ends;
-use air::Logs;
-use fit::Edge;
-use mark::Mark;
+use flat::CAnswer;
+use flat::CMark;
+use flat::CRecord;
+use flat::CText;
 use octets::Outcome;
-use sheet::Lookup;
 ghost use mathlib.Core.Path.{_≡_};
-ghost use mathlib.Core.Bool.{cond};
 ghost use Prim.Native.Nat.{_≤_};
 ghost use lib.ListN.{length, take};
 ghost use lib.Seq.{sets};
 ghost use Rattle.octets.specs.Room.{written, outcomeOf};
 ghost use Rattle.name.specs.Name.{nameOf, spellingOf};
 ghost use Rattle.sheet.specs.Sheet.{sheetOf, numberOf};
-ghost use Rattle.air.specs.Held.{held};
 ghost use Rattle.air.specs.Choices.{chosen};
 ghost use Rattle.air.specs.State.{answerBy};
 ghost use Rattle.mark.specs.Mark.{markOf};
 ghost use Rattle.calculator.specs.Search.{locate, searchBy};
-ghost use Rattle.airstate.specs.Flat.{lowValue, highValue, flatEdges, assembled, flat, flatFound, flatText, flatMark, lineIn, overlaid};
-
-#[repr(C)]
-pub struct CEdge {
-    pub fit: i64,
-    pub weight: i64,
-    pub value: i64,
-}
-
-#[repr(C)]
-pub struct CAnswer {
-    pub number: u32,
-    pub letter: u32,
-    pub carries: u32,
-    pub x: i64,
-    pub y: i64,
-    pub z: i64,
-    pub value: i64,
-    pub low: CEdge,
-    pub high: CEdge,
-}
-
-#[repr(C)]
-pub struct CRecord {
-    pub number: u32,
-    pub kind: u32,
-    pub first: u64,
-    pub second: u64,
-    pub start: usize,
-    pub length: usize,
-}
-
-#[repr(C)]
-pub struct CText {
-    pub number: u32,
-    pub length: usize,
-}
-
-#[repr(C)]
-pub struct CPoint {
-    pub across: f64,
-    pub up: f64,
-}
-
-#[repr(C)]
-pub struct CMark {
-    pub blank: u32,
-    pub point: CPoint,
-}
-
-// The low and the high edge, with the bits that say which are carried.
-pub struct CEdges {
-    pub bits: u32,
-    pub low: CEdge,
-    pub high: CEdge,
-}
-
-// The edges that an answer carries, with their own values.
-fn flat_edges(edges: Edges, low: i64, high: i64) -> CEdges
-    ensures { λ r. ⌜ r ≡ flatEdges edges low high ⌝ }
-{
-    let none = CEdge {
-        fit: 0,
-        weight: 0,
-        value: 0,
-    };
-    match edges {
-        Edges::Unfitted => CEdges {
-            bits: 0,
-            low: none,
-            high: none,
-        },
-        Edges::One(e) => CEdges {
-            bits: 4,
-            low: CEdge {
-                fit: e.fit,
-                weight: e.weight,
-                value: low,
-            },
-            high: none,
-        },
-        Edges::Two(e, f) => CEdges {
-            bits: 12,
-            low: CEdge {
-                fit: e.fit,
-                weight: e.weight,
-                value: low,
-            },
-            high: CEdge {
-                fit: f.fit,
-                weight: f.weight,
-                value: high,
-            },
-        },
-    }
-}
-
-fn low_value(ends: Ends) -> i64
-    ensures { λ r. ⌜ r ≡ lowValue ends ⌝ }
-{
-    match ends {
-        Ends::Unjoined => 0,
-        Ends::Both(a, _) => a,
-    }
-}
-
-fn high_value(ends: Ends) -> i64
-    ensures { λ r. ⌜ r ≡ highValue ends ⌝ }
-{
-    match ends {
-        Ends::Unjoined => 0,
-        Ends::Both(_, b) => b,
-    }
-}
-
-// The bits of the logarithms.
-fn log_bits(triple: bool) -> u32
-    ensures { λ r. ⌜ r ≡ cond triple 3 1 ⌝ }
-{
-    if triple { 3 } else { 1 }
-}
-
-// The parts of an answer put together; `bit` is that of the value.
-fn assemble(number: u32, letter: u8, logs: Logs, edges: CEdges, bit: u32, value: i64) -> CAnswer
-    requires { ⌜ (edges .bits ≤ 12) × (bit ≤ 16) ⌝ }
-    ensures { λ r. ⌜ r ≡ assembled number letter logs edges bit value ⌝ }
-{
-    let bits = log_bits(logs.triple) + edges.bits + bit;
-    let low = edges.low;
-    let high = edges.high;
-    CAnswer {
-        number,
-        letter: letter as u32,
-        carries: bits,
-        x: logs.x,
-        y: logs.y,
-        z: logs.z,
-        value,
-        low,
-        high,
-    }
-}
-
-// An answer as C takes it.
-fn flatten(a: Answer) -> CAnswer
-    ensures { λ r. ⌜ r ≡ flat (held a) ⌝ }
-{
-    match a {
-        Answer::Refused(number) => {
-            let none = CEdge {
-                fit: 0,
-                weight: 0,
-                value: 0,
-            };
-            CAnswer {
-                number,
-                letter: 0,
-                carries: 0,
-                x: 0,
-                y: 0,
-                z: 0,
-                value: 0,
-                low: none,
-                high: none,
-            }
-        }
-        Answer::Judged {
-            letter,
-            number,
-            logs,
-            edges,
-        } => assemble(number, letter, logs, flat_edges(edges, 0, 0), 0, 0),
-        Answer::Shows {
-            letter,
-            logs,
-            edges,
-            ends,
-            value,
-        } => {
-            let e = flat_edges(edges, low_value(ends), high_value(ends));
-            assemble(0, letter, logs, e, 16, value)
-        }
-    }
-}
-
-fn flatten_text(t: Outcome) -> CText
-    ensures { λ r. ⌜ r ≡ flatText t ⌝ }
-{
-    match t {
-        Outcome::Refused(number) => CText { number, length: 0 },
-        Outcome::Done(length) => CText { number: 0, length },
-    }
-}
-
-fn flatten_mark(m: Mark) -> CMark
-    ensures { λ r. ⌜ r ≡ flatMark m ⌝ }
-{
-    match m {
-        Mark::At(p) => CMark {
-            blank: 0,
-            point: CPoint {
-                across: p.across,
-                up: p.up,
-            },
-        },
-        Mark::Blank(number) => CMark {
-            blank: number,
-            point: CPoint {
-                across: 0.0,
-                up: 0.0,
-            },
-        },
-    }
-}
-
-fn flatten_found(found: Lookup) -> CRecord
-    ensures { λ r. ⌜ r ≡ flatFound found ⌝ }
-{
-    match found {
-        Lookup::Miss(number) => CRecord {
-            number,
-            kind: 0,
-            first: 0,
-            second: 0,
-            start: 0,
-            length: 0,
-        },
-        Lookup::Hit(r) => CRecord {
-            number: 0,
-            kind: r.kind as u32,
-            first: r.first,
-            second: r.second,
-            start: r.start,
-            length: r.len,
-        },
-    }
-}
+ghost use Rattle.flat.specs.Flat.{flat, flatFound, flatText, flatMark};
+ghost use Rattle.airstate.specs.Texts.{lineIn, overlaid};
 
 // The sheet's number: 0, 1 to 6, 16.
 #[no_mangle]
@@ -271,7 +31,7 @@ pub extern "C" fn eas_check(sheet: &[u8]) -> u32
 pub extern "C" fn eas_find(sheet: &[u8], spelled: &[u8]) -> CRecord
     ensures { λ r. ⌜ r ≡ flatFound (locate (now (sheet .entry)) (now (spelled .entry))) ⌝ }
 {
-    flatten_found(calculator::locate(sheet, spelled))
+    flat::flatten_found(calculator::locate(sheet, spelled))
 }
 
 // The answer for a spelled name.
@@ -279,7 +39,7 @@ pub extern "C" fn eas_find(sheet: &[u8], spelled: &[u8]) -> CRecord
 pub extern "C" fn eas_search(sheet: &[u8], spelled: &[u8]) -> CAnswer
     ensures { λ r. ⌜ r ≡ flat (searchBy chosen (now (sheet .entry)) (now (spelled .entry))) ⌝ }
 {
-    flatten(calculator::search(sheet, spelled))
+    flat::flatten(calculator::search(sheet, spelled))
 }
 
 // The answer for a state handed in.
@@ -287,7 +47,7 @@ pub extern "C" fn eas_search(sheet: &[u8], spelled: &[u8]) -> CAnswer
 pub extern "C" fn eas_evaluate(kind: u8, first: u64, second: u64) -> CAnswer
     ensures { λ r. ⌜ r ≡ flat (answerBy chosen kind first second) ⌝ }
 {
-    flatten(evaluate::evaluate(kind, first, second))
+    flat::flatten(evaluate::evaluate(kind, first, second))
 }
 
 // The plot mark of a spelled name.
@@ -295,7 +55,7 @@ pub extern "C" fn eas_evaluate(kind: u8, first: u64, second: u64) -> CAnswer
 pub extern "C" fn eas_plot(sheet: &[u8], spelled: &[u8]) -> CMark
     ensures { λ r. ⌜ r ≡ flatMark (markOf (searchBy chosen (now (sheet .entry)) (now (spelled .entry)))) ⌝ }
 {
-    flatten_mark(mark::mark_of(calculator::search(sheet, spelled)))
+    flat::flatten_mark(mark::mark_of(calculator::search(sheet, spelled)))
 }
 
 // The listing line of a spelled name, in lent room.
@@ -304,7 +64,7 @@ pub extern "C" fn eas_line(sheet: &[u8], spelled: &[u8], out: &mut [u8]) -> CTex
     ensures { λ r. ⌜ r ≡ flatText (outcomeOf (lineIn (length (now (out .entry))) (now (sheet .entry)) (now (spelled .entry)))) ⌝ }
     ensures { λ _. ⌜ now (out .exit) ≡ written (lineIn (length (now (out .entry))) (now (sheet .entry)) (now (spelled .entry))) (now (out .entry)) ⌝ }
 {
-    flatten_text(report::line(sheet, spelled, out))
+    flat::flatten_text(report::line(sheet, spelled, out))
 }
 
 // Spells a raw name into lent room.
@@ -313,7 +73,7 @@ pub extern "C" fn eas_spell(name: &[u8], out: &mut [u8]) -> CText
     ensures { λ r. ⌜ r ≡ flatText (outcomeOf (spellingOf (now (name .entry)) (length (now (out .entry))))) ⌝ }
     ensures { λ _. ⌜ now (out .exit) ≡ written (spellingOf (now (name .entry)) (length (now (out .entry)))) (now (out .entry)) ⌝ }
 {
-    flatten_text(name::spell(name, out))
+    flat::flatten_text(name::spell(name, out))
 }
 
 // Copies the first n of 40 bytes.

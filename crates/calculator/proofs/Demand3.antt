@@ -5,12 +5,13 @@ use Prim.Native.Nat.{ℕ, _≤_}
 use lib.Dec.{lit≤}
 use Rattle.octets.specs.Room.{text}
 use Rattle.name.specs.Name.{nameOf}
-use Rattle.sheet.specs.declared.Record.{Record}
-use Rattle.sheet.specs.declared.Lookup.{Lookup}
-use Rattle.sheet.specs.declared.Lookup.the-variants.{Hit, Miss}
-use Rattle.sheet.specs.Layout.{layoutOf}
-use Rattle.sheet.specs.Sheet.{records, sheetOf, nameIn}
-use Rattle.sheet.proofs.Locate.{finds}
+use Rattle.sheet_record.specs.declared.Record.{Record}
+use Rattle.sheet_search.specs.declared.Lookup.{Lookup}
+use Rattle.sheet_search.specs.declared.Lookup.the-variants.{Hit, Miss}
+use Rattle.sheet_record.specs.Layout.{layoutOf}
+use Rattle.sheet_record.specs.Front.{nameIn}
+use Rattle.sheet.specs.Sheet.{records, sheetOf}
+use Rattle.sheet_search.proofs.Locate.{finds}
 use Rattle.air.specs.declared.Answer.{Answer}
 use Rattle.air.specs.Held.{held}
 use Rattle.air.specs.Choices.{Choices, Lawful, chosen}

@@ -5,14 +5,14 @@ use Prim.Native.Nat.{ℕ}
 use native.Mathlib.Omega.{arith}
 use Rattle.octets.specs.Room.{Text, text, refused}
 use Rattle.name.specs.Name.{nameOf}
-use Rattle.sheet.specs.declared.Record.{Record}
-use Rattle.sheet.specs.declared.Lookup.{Lookup}
-use Rattle.sheet.specs.declared.Lookup.the-variants.{Hit, Miss}
+use Rattle.sheet_record.specs.declared.Record.{Record}
+use Rattle.sheet_search.specs.declared.Lookup.{Lookup}
+use Rattle.sheet_search.specs.declared.Lookup.the-variants.{Hit, Miss}
 use Rattle.sheet.specs.Sheet
 use Rattle.sheet.specs.Sheet.{Sheet, records, sheetOf, numberOf, Accepted}
-use Rattle.sheet.specs.Find.{findIn, findBy, findOf, Inside}
+use Rattle.sheet_search.specs.Find.{findIn, findBy, findOf, Inside}
 use Rattle.sheet.proofs.Accept.{accepted-is}
-use Rattle.sheet.proofs.Searching.{find-inside}
+use Rattle.sheet_search.proofs.Searching.{find-inside}
 use Rattle.calculator.specs.Search.{locateName, locateIn, locate}
 
 module _ (s spelling : List ℕ) where

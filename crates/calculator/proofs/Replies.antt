@@ -4,13 +4,13 @@ use mathlib.Core.Path.{_≡_, refl, sym, ap, _∙_}
 use Prim.Native.Nat.{ℕ}
 use Rattle.octets.specs.Room.{Text, text, refused}
 use Rattle.name.specs.Name.{nameOf}
-use Rattle.sheet.specs.declared.Lookup.{Lookup}
-use Rattle.sheet.specs.declared.Lookup.the-variants.{Hit, Miss}
-use Rattle.sheet.specs.declared.Record.{Record}
-use Rattle.sheet.specs.Find.{handedBack}
+use Rattle.sheet_search.specs.declared.Lookup.{Lookup}
+use Rattle.sheet_search.specs.declared.Lookup.the-variants.{Hit, Miss}
+use Rattle.sheet_record.specs.declared.Record.{Record}
+use Rattle.sheet_search.specs.Find.{handedBack}
 use Rattle.sheet.specs.Sheet
 use Rattle.sheet.specs.Sheet.{Sheet, records, sheetOf}
-use Rattle.sheet.proofs.Pages.{Page, without, with, pageOf, Reply, missed, found, replyOf, findOn, find-page, replyName, name-reply}
+use Rattle.sheet_search.proofs.Pages.{Page, without, with, pageOf, Reply, missed, found, replyOf, findOn, find-page, replyName, name-reply}
 use Rattle.air.specs.Held.{Held, refuses}
 use Rattle.air.specs.Choices.{Choices}
 use Rattle.air.specs.State.{answerBy}

@@ -4,8 +4,9 @@ use mathlib.Core.Path.{_≡_}
 use Prim.Native.Nat.{ℕ, _≤_}
 use Rattle.octets.specs.Room.{text}
 use Rattle.name.specs.Name.{nameOf}
-use Rattle.sheet.specs.declared.Record.{Record}
-use Rattle.sheet.specs.Sheet.{records, sheetOf, nameIn}
+use Rattle.sheet_record.specs.declared.Record.{Record}
+use Rattle.sheet_record.specs.Front.{nameIn}
+use Rattle.sheet.specs.Sheet.{records, sheetOf}
 use Rattle.air.specs.declared.Answer.{Answer}
 use Rattle.air.specs.Held.{held}
 use Rattle.air.specs.State.{IsAnswer, Accepted, Accurate}

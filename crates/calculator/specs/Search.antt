@@ -4,12 +4,12 @@ use Prim.Native.Nat.{ℕ}
 use mathlib.Core.Path.{_≡_}
 use Rattle.octets.specs.Room.{Text, text, refused}
 use Rattle.name.specs.Name.{nameOf}
-use Rattle.sheet.specs.declared.Record.{Record}
-use Rattle.sheet.specs.declared.Lookup.{Lookup}
-use Rattle.sheet.specs.declared.Lookup.the-variants.{Hit, Miss}
+use Rattle.sheet_record.specs.declared.Record.{Record}
+use Rattle.sheet_search.specs.declared.Lookup.{Lookup}
+use Rattle.sheet_search.specs.declared.Lookup.the-variants.{Hit, Miss}
 use Rattle.sheet.specs.Sheet
 use Rattle.sheet.specs.Sheet.{Sheet, records, sheetOf}
-use Rattle.sheet.specs.Find.{findIn}
+use Rattle.sheet_search.specs.Find.{findIn}
 use Rattle.air.specs.declared.Answer.{Answer}
 use Rattle.air.specs.Held.{Held, held, refuses}
 use Rattle.air.specs.Choices.{Choices}

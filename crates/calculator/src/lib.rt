@@ -1,9 +1,9 @@
 // The search of a sheet by a spelled name.
 use air::Answer;
 use octets::Outcome;
-use sheet::Lookup;
+use sheet_search::Lookup;
 ghost use mathlib.Core.Path.{_≡_};
-ghost use Rattle.sheet.specs.Find.{handedBack};
+ghost use Rattle.sheet_search.specs.Find.{handedBack};
 ghost use Rattle.sheet.specs.Index.{Indexed};
 ghost use Rattle.air.specs.Held.{held};
 ghost use Rattle.air.specs.Choices.{chosen};
@@ -25,7 +25,7 @@ pub fn locate_in(
     let outcome = name.outcome;
     match outcome {
         Outcome::Refused(number) => Lookup::Miss(number),
-        Outcome::Done(n) => sheet::find(sheet, starts, heads, next, &bytes[..n]),
+        Outcome::Done(n) => sheet_search::find(sheet, starts, heads, next, &bytes[..n]),
     }
 }
 
@@ -78,5 +78,5 @@ pub fn search(sheet: &[u8], spelled: &[u8]) -> Answer
 pub fn found_name<'a, 'b>(sheet: &'a [u8], spelled: &'b [u8]) -> &'a [u8]
     ensures { λ r. ⌜ now r ≡ handedBack (now (sheet .entry)) (locate (now (sheet .entry)) (now (spelled .entry))) ⌝ }
 {
-    sheet::handed_back(sheet, locate(sheet, spelled))
+    sheet_search::handed_back(sheet, locate(sheet, spelled))
 }

@@ -13,13 +13,8 @@ use native.Mathlib.Numerals.{add-one}
 use lib.Signed.{ltZ, nonNeg}
 use mir.Syntax.{w64}
 use mir.Val.{SFits, toZ, ofZ}
-use mir.ValLaws.{toZ-ofZ}
 use Rattle.integer.specs.Z.{zs, ≡-by}
 use Rattle.decimal.specs.Decimal.{natural, whole}
-
--- the machine reads back a number that fits
-pub back : {z : ℤ} → SFits w64 z → toZ w64 (ofZ w64 z) ≡ z
-back {z} f = toZ-ofZ w64 z f
 
 flip : (n : ℕ) → negsuc 0 -ℤ negsuc n ≡ pos n
 flip n = ≡-by (search zs) (omega arith)

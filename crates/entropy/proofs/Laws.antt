@@ -13,10 +13,10 @@ use Rattle.logarithm.specs.Log.{IsLog}
 use Rattle.logarithm.proofs.Range.{log-least, log-most}
 use Rattle.fit.specs.Range.{Between}
 use Rattle.fit.specs.Fit.{straight}
-use Rattle.tgas.specs.declared.Strip.{Strip}
-use Rattle.tgas.specs.declared.Strip.the-variants.{Clear}
-use Rattle.tgas.specs.declared.Strip.the-variants as strip
-use Rattle.tgas.specs.Bands.{lowEdge, highEdge, inside, pickStrip, stripOf}
+use Rattle.bands.specs.declared.Strip.{Strip}
+use Rattle.bands.specs.declared.Strip.the-variants.{Clear}
+use Rattle.bands.specs.declared.Strip.the-variants as strip
+use Rattle.bands.specs.Bands.{lowEdge, highEdge, inside, pickStrip, stripOf}
 use Rattle.air.specs.declared.Logs.{Logs}
 use Rattle.air.specs.declared.Edges.the-variants.{Unfitted}
 use Rattle.air.specs.declared.Ends.the-variants.{Unjoined}

@@ -3,13 +3,13 @@ use air::Answer;
 use air::Edges;
 use air::Ends;
 use air::Logs;
-use tgas::Strip;
+use air::answers;
+use bands::Strip;
 ghost use mathlib.Core.Path.{_≡_};
 ghost use mathlib.Core.Option.{some};
 ghost use Rattle.air.specs.declared.Edges.the-variants.{Unfitted};
-ghost use Rattle.air.specs.declared.Ends.the-variants.{Unjoined};
-ghost use Rattle.tgas.specs.declared.Strip.the-variants.{Clear, Between};
-ghost use Rattle.air.specs.Held.{held, judges, shows};
+ghost use Rattle.bands.specs.declared.Strip.the-variants.{Clear, Between};
+ghost use Rattle.air.specs.Held.{held, judges};
 ghost use Rattle.air.specs.Entropy.{letterS, rise, entropyAt, aboveLimit, entropyIn, entropyFrom};
 ghost use Rattle.air.specs.Choices.{chosen};
 ghost use Rattle.air.specs.State.{entropyProperty, heldBy};
@@ -31,40 +31,22 @@ fn entropy_at(y: i64, z: i64) -> i64
     if z <= 650000 {
         return 67792004 + fit::entropy_rise(rise(y, z));
     }
-    let band = tgas::band_of(y);
-    fit::entropy_of_fit(fit::bicubic(tgas::entropy::entropy_bicubic(band), y, z))
+    let band = bands::band_of(y);
+    fit::entropy_of_fit(fit::bicubic(tgas2_entropy::entropy_bicubic(band), y, z))
 }
 
 // Refusal 12 of an entropy.
 fn beyond(logs: Logs) -> Answer
     ensures { λ r. ⌜ held r ≡ judges 12 letterS logs Unfitted ⌝ }
 {
-    Answer::Judged {
-        letter: b'S',
-        number: 12,
-        logs,
-        edges: Edges::Unfitted,
-    }
-}
-
-// An entropy's answer.
-fn shown(logs: Logs, value: i64) -> Answer
-    ensures { λ r. ⌜ held r ≡ shows letterS logs Unfitted Unjoined value ⌝ }
-{
-    Answer::Shows {
-        letter: b'S',
-        logs,
-        edges: Edges::Unfitted,
-        ends: Ends::Unjoined,
-        value,
-    }
+    answers::judged(b'S', 12, logs, Edges::Unfitted)
 }
 
 // Whether Z is above the limit of the band of Y.
 fn above_limit(y: i64, z: i64) -> bool
     ensures { λ r. ⌜ r ≡ aboveLimit y z ⌝ }
 {
-    tgas::entropy::entropy_limit(tgas::band_of(y)) < z
+    tgas2_entropy::entropy_limit(bands::band_of(y)) < z
 }
 
 // An entropy's answer outside the strips.
@@ -77,7 +59,8 @@ fn unjoined(logs: Logs) -> Answer
     if above_limit(y, z) {
         return beyond(logs);
     }
-    shown(logs, entropy_at(y, z))
+    let s = entropy_at(y, z);
+    answers::shown(b'S', logs, Edges::Unfitted, Ends::Unjoined, s)
 }
 
 // An entropy's answer inside a strip, by its value at both edges.
@@ -93,10 +76,8 @@ fn joined(logs: Logs, a: i64, b: i64) -> Answer
     if above_limit(b, z) {
         return beyond(logs);
     }
-    shown(
-        logs,
-        fit::straight(a, b, entropy_at(a, z), entropy_at(b, z), y),
-    )
+    let s = fit::straight(a, b, entropy_at(a, z), entropy_at(b, z), y);
+    answers::shown(b'S', logs, Edges::Unfitted, Ends::Unjoined, s)
 }
 
 // An entropy's answer from its logarithms.
@@ -105,7 +86,7 @@ fn entropy_from(logs: Logs) -> Answer
     ensures { λ r. ⌜ held r ≡ entropyFrom logs ⌝ }
 {
     let y = logs.y;
-    match tgas::strip_of(y) {
+    match bands::strip_of(y) {
         Strip::Clear => unjoined(logs),
         Strip::Between(a, b) => joined(logs, a, b),
     }

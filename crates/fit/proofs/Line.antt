@@ -11,7 +11,7 @@ use Rattle.integer.specs.Laws.{abs-is, abs-by, abs-+, abs--, abs-*}
 use Rattle.fit.specs.Range.{In, Splits, Between}
 use Rattle.fit.specs.Fit.{straight}
 use Rattle.fit.proofs.Floors.{quotient-upto}
-use Rattle.fit.proofs.Machine.{fits64}
+use Rattle.integer.proofs.Machine.{fits64}
 
 -- how far y is from a, and b
 module _ {a b y : ℤ} (h : Between a b y) where

@@ -17,20 +17,9 @@ use mir.ValLaws.{toZ-ofZ}
 use Rattle.integer.specs.Z.{up, dn, zs, v, ≡→, +-split}
 use Rattle.integer.specs.Laws.{mag-abs, abs-is, abs-*, abs-+}
 use Rattle.integer.specs.Floor.{Down, down-unique, down-by}
+use Rattle.integer.proofs.Machine.{fits64, back-ok}
 use Rattle.fit.specs.Range.{In, allIn, AllIn, Divides, Splits}
 use Rattle.fit.proofs.Floors.{is-down, split, quotient-size, rest-size, product-size}
-
--- a number below 2^63 in size fits an i64
-pub fits64 : (z : ℤ) → natAbs z < 2 ^ 63 → SFits w64 z
-fits64 z h = record { sfits = omega (arith, mag-abs z) }
-
--- the machine reads back a number that fits
-pub back : {z : ℤ} → SFits w64 z → toZ w64 (ofZ w64 z) ≡ z
-back {z} f = toZ-ofZ w64 z f
-
--- and a call's result, of which `.ok` says that it fits
-pub back-ok : (z : ℤ) → mag z < 2 ^ 63 → toZ w64 (ofZ w64 z) ≡ z
-back-ok z f = toZ-ofZ w64 z (record { sfits = f })
 
 -- a range, of what the machine reads back
 pub in-back : {n : ℕ} {z : ℤ} → SFits w64 z → In n z → In n (toZ w64 (ofZ w64 z))

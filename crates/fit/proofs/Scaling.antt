@@ -14,7 +14,7 @@ use Rattle.integer.specs.Floor.{Down}
 use Rattle.weight.specs.Weight.{units}
 use Rattle.fit.specs.Range.{In, Divides, Splits}
 use Rattle.fit.proofs.Floors.{is-down, split, twice, quotient-upto, rest-size, product-size}
-use Rattle.fit.proofs.Machine.{fits64}
+use Rattle.integer.proofs.Machine.{fits64}
 use Rattle.fit.proofs.Ranges.{splits, divides-over}
 
 weight-size : (w : ℤ) → pos 0 ≤ℤ w → w ≤ℤ pos units → natAbs w ≤ units

@@ -16,11 +16,12 @@ use Rattle.logarithm.proofs.Bounds.{Lo, Hi}
 use Rattle.logarithm.proofs.Numbers.{lg-is}
 use Rattle.logarithm.proofs.Exponents.{above-by, below-by, is-pred, is-suc}
 
--- the difference x - y of two logarithms, raised by b and rounded to g with q to the unit: within one of the j-th power's logarithm
-quotient : (j q n d x y A g b c H : ℕ) → 0 < q → Lo (j * q) x n 1 → Hi (j * q) (x + c) n 1 → Lo (j * q) y d 1 → Hi (j * q) (y + c) d 1
-    → A + y ≡ x + b * (j * q) → g * q ≤ A + H → A + H < g * q + q → c ≤ H → H + c < q → (10 ^ g * d ^ j < 10 * (n * 10 ^ b) ^ j) × ((n * 10 ^ b) ^ j < 10 * 10 ^ g * d ^ j)
+-- the difference x - y of two logarithms that are at most s and t too low, raised by b and rounded to g with q to the unit: within one of
+-- the j-th power's logarithm
+quotient : (j q n d x y A g b s t H : ℕ) → 0 < q → Lo (j * q) x n 1 → Hi (j * q) (x + s) n 1 → Lo (j * q) y d 1 → Hi (j * q) (y + t) d 1
+    → A + y ≡ x + b * (j * q) → g * q ≤ A + H → A + H < g * q + q → s ≤ H → H + t < q → (10 ^ g * d ^ j < 10 * (n * 10 ^ b) ^ j) × ((n * 10 ^ b) ^ j < 10 * 10 ^ g * d ^ j)
 unfolding Lo Hi
-quotient j q n d x y A g b c H o xl xh yl yh e gl gh cl cq =
+quotient j q n d x y A g b s t H o xl xh yl yh e gl gh sl tq =
     let k = j * q in
     let one : 1 ^ k ≡ 1 = one-pow k in
     let nn : ((n * 10 ^ b) ^ j) ^ q ≡ n ^ k * 10 ^ (b * k) = sym (pow-mul (n * 10 ^ b) j q) ∙ mul-pow n (10 ^ b) k ∙ ap (λ (u : ℕ). n ^ k * u) (sym (pow-mul 10 b k)) in
@@ -28,14 +29,14 @@ quotient j q n d x y A g b c H o xl xh yl yh e gl gh cl cq =
     let gg : (10 ^ g) ^ q ≡ 10 ^ (g * q) = sym (pow-mul 10 g q) in (
       lt-root (10 ^ g * d ^ j) (10 * (n * 10 ^ b) ^ j) q
           (rw (mul-pow (10 ^ g) (d ^ j) q, mul-pow 10 ((n * 10 ^ b) ^ j) q, nn, dd, gg)
-          (under (10 ^ (g * q)) (d ^ k) (10 ^ q) (n ^ k) (10 ^ (b * k)) (10 ^ x) (10 ^ (y + c))
+          (under (10 ^ (g * q)) (d ^ k) (10 ^ q) (n ^ k) (10 ^ (b * k)) (10 ^ x) (10 ^ (y + t))
           (rw one at xl) (rw one at yh)
-          (rw (← (pow-add 10 (g * q) (y + c)), ← (pow-add 10 q x), ← (pow-add 10 (q + x) (b * k))) (ten-lt (g * q + (y + c)) (q + x + b * k) (omega arith))))),
+          (rw (← (pow-add 10 (g * q) (y + t)), ← (pow-add 10 q x), ← (pow-add 10 (q + x) (b * k))) (ten-lt (g * q + (y + t)) (q + x + b * k) (omega arith))))),
       lt-root ((n * 10 ^ b) ^ j) (10 * 10 ^ g * d ^ j) q
           (rw (mul-pow (10 * 10 ^ g) (d ^ j) q, mul-pow 10 (10 ^ g) q, nn, dd, gg)
-          (over (10 ^ (g * q)) (d ^ k) (10 ^ q) (n ^ k) (10 ^ (b * k)) (10 ^ (x + c)) (10 ^ y)
+          (over (10 ^ (g * q)) (d ^ k) (10 ^ q) (n ^ k) (10 ^ (b * k)) (10 ^ (x + s)) (10 ^ y)
           (rw one at xh) (rw one at yl)
-          (rw (← (pow-add 10 (x + c) (b * k)), ← (pow-add 10 q (g * q)), ← (pow-add 10 (q + g * q) y)) (ten-lt (x + c + b * k) (q + g * q + y) (omega arith))))),
+          (rw (← (pow-add 10 (x + s) (b * k)), ← (pow-add 10 q (g * q)), ← (pow-add 10 (q + g * q) y)) (ten-lt (x + s + b * k) (q + g * q + y) (omega arith))))),
     )
   where
     under : (G D Q N B X Y : ℕ) → X * 1 ≤ N → D ≤ Y * 1 → G * Y < Q * X * B → G * D < Q * (N * B)
@@ -72,7 +73,7 @@ log-is n d n-some n-fits d-some d-fits =
     let q = lg-is d d-some d-fits in
     let x = lgOf n in
     let y = lgOf d in
-    let w = quotient 1000000 10000 n d x y (x + 200000000000 - y) (raisedLog n d) 20 1106 5000 (lit< tt)
+    let w = quotient 1000000 10000 n d x y (x + 200000000000 - y) (raisedLog n d) 20 1106 1106 5000 (lit< tt)
     (p .low) (p .high) (q .low) (q .high) (omega arith) (omega arith) (omega arith) (lit≤ tt) (lit< tt) in
     let r = whole 1000000 n d 20 (raisedLog n d) (logOf n d) (lowered (raisedLog n d) 20000000) w in
     record { ratio = d-some; above = r .0; below = r .1 }

@@ -17,7 +17,7 @@ use Rattle.mark.proofs.Whole.{add-plus, add-less, add-same}
 abbrev seven : ℕ
 seven = 7000000
 
-small : (n : ℕ) → n ≤ seven → n ≤ 2 ^ prec binary64
+small : (n : ℕ) → n ≤ 20000000 → n ≤ 2 ^ prec binary64
 small n h = omega arith
 
 -- the literal of the code is 7,000,000 converted
@@ -26,7 +26,7 @@ unfolding ofBits ofInt round
 literal = refl
 
 -- a Y in range, by its sign
-rise : {v : ℤ} (n : ℕ) → Drawable (pos n) v → n ≤ seven
+rise : {v : ℤ} (n : ℕ) → Drawable (pos n) v → n ≤ 20000000
 rise n r = omega (arith, ≤→ (r .most))
 
 depth : {v : ℤ} (k : ℕ) → Drawable (negsuc k) v → suc k ≤ seven
@@ -35,7 +35,7 @@ depth k r = omega (arith, ≤→ (r .least))
 pub in-float : (y v : ℤ) → Drawable y v → T (inFloat binary64 y)
 unfolding inFloat
 in-float (pos n) v r = le→leb n (2 ^ 53) (small n (rise n r))
-in-float (negsuc k) v r = le→leb (suc k) (2 ^ 53) (small (suc k) (depth k r))
+in-float (negsuc k) v r = le→leb (suc k) (2 ^ 53) (small (suc k) (omega (arith, depth k r)))
 
 below : (k : ℕ) → suc k ≤ seven → subℕ seven (suc k) ≡ pos (seven - suc k)
 below k h = ap (λ (t : Bool). cond t (negsuc (suc k - suc seven)) (pos (seven - suc k))) (le-ltb seven (suc k) h)
@@ -47,7 +47,7 @@ low k h =
     ap (λ (n : ℕ). add binary64 (round binary64 true n 1) (round binary64 false seven 1)) e
     ∙ add-same binary64 seven (small seven (omega arith))
     ∙ ap (λ (n : ℕ). round binary64 false n 1) (sym (ap (λ (n : ℕ). seven - n) e)))
-    (λ (l : suc k < seven). add-less binary64 (suc k) seven (small (suc k) h) (small seven (omega arith)) l)
+    (λ (l : suc k < seven). add-less binary64 (suc k) seven (small (suc k) (omega arith)) (small seven (omega arith)) l)
     (eq-or-lt-of-le h)
 
 placed : (y v : ℤ) → Drawable y v → add binary64 (ofInt binary64 y) (ofInt binary64 (pos seven)) ≡ ofInt binary64 (y +ℤ pos seven)
@@ -64,7 +64,7 @@ exactly (negsuc k) t = round-whole binary64 true (suc k) (leb→le (suc k) (2 ^ 
 -- the sum, too, is one that a double holds
 sum-in : (y v : ℤ) → Drawable y v → T (inFloat binary64 (y +ℤ pos seven))
 unfolding inFloat
-sum-in (pos n) v r = let h : n ≤ seven = rise n r in le→leb (n + seven) (2 ^ 53) (omega arith)
+sum-in (pos n) v r = let h : n ≤ 20000000 = rise n r in le→leb (n + seven) (2 ^ 53) (omega arith)
 sum-in (negsuc k) v r =
     subst (λ (z : ℤ). T (inFloat binary64 z)) (sym (below k (depth k r))) (le→leb (seven - suc k) (2 ^ 53) (omega arith))
 

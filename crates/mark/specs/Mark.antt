@@ -18,26 +18,34 @@ use Rattle.mark.specs.declared.Mark.the-variants.{At, Blank}
 abbrev pub pointOf : ℤ → ℤ → Point
 pointOf y v = record { across = add binary64 (ofInt binary64 y) (ofInt binary64 (pos 7000000)); up = ofInt binary64 v }
 
+-- what a mark shows of a value, by the answer's letter: the value itself
+abbrev pub shownValue : ℕ → ℤ → ℤ
+shownValue letter v = v
+
 -- a point where there is a value, else a blank with the refusal's number
-abbrev pub markFrom : ℕ → Option Logs → Option ℤ → Mark
-markFrom n none v = Blank n
-markFrom n (some l) none = Blank n
-markFrom n (some l) (some v) = At (pointOf (l .y) v)
+abbrev pub markFrom : ℕ → ℕ → Option Logs → Option ℤ → Mark
+markFrom n letter none v = Blank n
+markFrom n letter (some l) none = Blank n
+markFrom n letter (some l) (some v) = At (pointOf (l .y) (shownValue letter v))
 
 -- the mark of what an answer holds
 unfoldable pub markOf : Held → Mark
-markOf h = markFrom (h .number) (h .logs) (h .value)
+markOf h = markFrom (h .number) (h .letter) (h .logs) (h .value)
 
--- a Y of a density in range, and a value that a double holds exactly
+-- a Y from -7 to 20, as every kind takes it, and a value that a double holds exactly
 pub record Drawable (y v : ℤ) : Type 0 where
   pub least : negℤ (pos 7000000) ≤ℤ y
-  pub most : y ≤ℤ pos 3000000
+  pub most : y ≤ℤ pos 20000000
   pub value : T (inFloat binary64 v)
 
-abbrev pub DrawableFrom : Option Logs → Option ℤ → Type 0
-DrawableFrom none v = Unit
-DrawableFrom (some l) none = Unit
-DrawableFrom (some l) (some v) = Drawable (l .y) v
+abbrev pub DrawableFrom : ℕ → Option Logs → Option ℤ → Type 0
+DrawableFrom letter none v = Unit
+DrawableFrom letter (some l) none = Unit
+DrawableFrom letter (some l) (some v) = Drawable (l .y) (shownValue letter v)
+
+-- what is held can be drawn
+abbrev pub CanDraw : Held → Type 0
+CanDraw h = DrawableFrom (h .letter) (h .logs) (h .value)
 
 -- a double that is a whole number exactly: finite, with its sign and its size
 abbrev pub Exactly : Float → ℤ → Type 0

@@ -2,7 +2,7 @@
 use air::Answer;
 ghost use mathlib.Core.Path.{_≡_};
 ghost use Rattle.air.specs.Held.{held};
-ghost use Rattle.mark.specs.Mark.{pointOf, markOf, Drawable, DrawableFrom};
+ghost use Rattle.mark.specs.Mark.{pointOf, markOf, Drawable, CanDraw};
 
 // Two doubles.
 #[repr(C)]
@@ -30,7 +30,7 @@ fn point_of(y: i64, v: i64) -> Point
 
 // The mark of an answer.
 pub fn mark_of(a: Answer) -> Mark
-    requires { ⌜ DrawableFrom (held a .logs) (held a .value) ⌝ }
+    requires { ⌜ CanDraw (held a) ⌝ }
     ensures { λ r. ⌜ r ≡ markOf (held a) ⌝ }
 {
     match a {

@@ -1,7 +1,7 @@
 -- Bytes as lists of numbers: numbers written high byte first, parts, equality. Defined once for all crates.
 use mathlib.Core.Bool.{Bool, true, false, _&&_}
-use mathlib.Core.List.{List, [], _∷_}
-use Prim.Native.Nat.{ℕ, _+_, _*_, _<_}
+use mathlib.Core.List.{List, [], _∷_, _++_}
+use Prim.Native.Nat.{ℕ, zero, suc, _+_, _*_, _/_, _%_, _<_}
 use lib.Dec.{eqb}
 use lib.ListN.{take, drop}
 
@@ -18,6 +18,11 @@ after n (b ∷ bs) = after (n * 256 + b) bs
 -- the number in the k bytes of s from a place on
 unfoldable pub numberAt : ℕ → List ℕ → ℕ → ℕ
 numberAt k s at = after 0 (take k (drop at s))
+
+-- the k lowest bytes of a number, high byte first
+unfoldable pub bytesOf : ℕ → ℕ → List ℕ
+bytesOf zero n = []
+bytesOf (suc k) n = bytesOf k (n / 256) ++ (n % 256 ∷ [])
 
 -- the n bytes of s that start at a place
 abbrev pub part : List ℕ → ℕ → ℕ → List ℕ

@@ -22,12 +22,12 @@ use Rattle.air.specs.State.{temperatureLogs, entropyLogs, kelvinBy, temperature
 use Rattle.kind.specs.declared.Kind.{Kind}
 use Rattle.kind.specs.declared.Kind.the-variants.{Temperature, Entropy, Unknown}
 use Rattle.kind.specs.Kind.{kindOf}
-use Rattle.sheet.specs.declared.Lookup.{Lookup}
-use Rattle.sheet.specs.declared.Lookup.the-variants.{Hit, Miss}
-use Rattle.tgas.specs.declared.Strip.{Strip}
-use Rattle.tgas.specs.declared.Region.{Region}
-use Rattle.tgas.specs.declared.Region.the-variants as r
-use Rattle.tgas.specs.Region.{regionOf}
+use Rattle.sheet_search.specs.declared.Lookup.{Lookup}
+use Rattle.sheet_search.specs.declared.Lookup.the-variants.{Hit, Miss}
+use Rattle.bands.specs.declared.Strip.{Strip}
+use Rattle.bands.specs.declared.Region.{Region}
+use Rattle.bands.specs.declared.Region.the-variants as r
+use Rattle.bands.specs.Region.{regionOf}
 use Rattle.calculator.specs.Search.{locate, answerAt, searchBy}
 use Rattle.calculator.proofs.Demand3.{search-allowed}
 use Rattle.line.specs.Line.{line}

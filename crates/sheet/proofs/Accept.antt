@@ -10,11 +10,11 @@ use lib.Dec.{eqb, ltb}
 use lib.ListN.{length, take}
 use Rattle.distinct.specs.Distinct.{repeats}
 use Rattle.octets.specs.Bytes.{numberAt}
-use Rattle.sheet.specs.Layout.{Layout, layoutOf, layoutIn, orPlain}
+use Rattle.sheet_record.specs.Layout.{Layout, layoutOf, layoutIn, orPlain}
 use Rattle.sheet.specs.Sheet.{Sheet, refused, records, isMarked, withLayout, sheetBy, sheetOf, numberOf, Accepted}
 use Rattle.sheet.specs.Structure.{versionFault, headFault, faultFrom, placesFrom, Walked}
-use Rattle.sheet.specs.declared.Record.{Record}
-use Rattle.sheet.proofs.Places.{or-false}
+use Rattle.sheet_record.specs.declared.Record.{Record}
+use Rattle.sheet_record.proofs.Places.{or-false}
 use Rattle.sheet.proofs.Walk.{recordsFrom, twice, names, verdict, walk-verdict, repeats-names}
 
 -- the records of a sheet, and what ends their reading

@@ -10,11 +10,11 @@ use lib.Dec.{eqb}
 use lib.ListN.{length, take, drop, length-drop}
 use lib.Seq.{drop-drop}
 use Rattle.octets.specs.Bytes.{part}
-use Rattle.sheet.specs.Layout.{Layout}
-use Rattle.sheet.specs.Sheet.{Fields, Front, bad, front, frontOf, recordAt, past, nameIn}
+use Rattle.sheet_record.specs.Layout.{Layout}
+use Rattle.sheet_record.specs.Front.{Fields, Front, bad, front, frontOf, recordAt, past, nameIn}
 use Rattle.sheet.specs.Structure.{faultFrom}
-use Rattle.sheet.specs.declared.Record.{Record}
-use Rattle.sheet.proofs.Places.{View, reads, view}
+use Rattle.sheet_record.specs.declared.Record.{Record}
+use Rattle.sheet_record.proofs.Places.{View, reads, view}
 use Rattle.sheet.proofs.Walk.{recordsFrom}
 
 -- a record without its place

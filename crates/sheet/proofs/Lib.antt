@@ -1,13 +1,6 @@
-pub mod Numbers
-pub mod Places
-pub mod Steps
 pub mod Head
 pub mod Walk
 pub mod Accept
-pub mod Searching
 pub mod Turns
-pub mod Locate
 pub mod Kept
-pub mod Local
 pub mod Entries
-pub mod Pages

@@ -8,13 +8,13 @@ use native.Mathlib.Omega.{arith}
 use lib.Dec.{eqb}
 use lib.ListN.{length, take, drop, set, length-set}
 use lib.Seq.{take-suc-set, append-snoc}
-use Rattle.sheet.specs.Layout.{Layout, layoutIn}
-use Rattle.sheet.specs.Sheet.{Front, bad, front, frontOf, past, placed, stepAt}
+use Rattle.sheet_record.specs.Layout.{Layout, layoutIn}
+use Rattle.sheet_record.specs.Front.{Front, bad, front, frontOf, past, placed, stepAt}
 use Rattle.sheet.specs.Structure.{faultFrom, placesFrom, Walked}
-use Rattle.sheet.specs.declared.Cursor.{Cursor}
-use Rattle.sheet.specs.declared.Record.{Record}
-use Rattle.sheet.specs.declared.Step.the-variants.{Read, Refused, End}
-use Rattle.sheet.proofs.Places.{View, reads, view}
+use Rattle.sheet_record.specs.declared.Cursor.{Cursor}
+use Rattle.sheet_record.specs.declared.Record.{Record}
+use Rattle.sheet_record.specs.declared.Step.the-variants.{Read, Refused, End}
+use Rattle.sheet_record.proofs.Places.{View, reads, view}
 
 -- nothing comes after a step that reads no record
 pub record Stops (y : Layout) (s : List ℕ) (at left k : ℕ) : Type 0 where

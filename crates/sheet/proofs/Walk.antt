@@ -10,11 +10,12 @@ use lib.ListN.{length, drop}
 use lib.Seq.{append-snoc}
 use Rattle.distinct.specs.Distinct.{nameAt, seenIn, repeats}
 use Rattle.octets.specs.Bytes.{same, part}
-use Rattle.sheet.specs.Layout.{Layout}
-use Rattle.sheet.specs.Sheet.{Fields, Front, bad, front, frontOf, recordAt, past, nameIn, Sheet, refused, records, seen, walk}
+use Rattle.sheet_record.specs.Layout.{Layout}
+use Rattle.sheet_record.specs.Front.{Fields, Front, bad, front, frontOf, recordAt, past, nameIn}
+use Rattle.sheet.specs.Sheet.{Sheet, refused, records, seen, walk}
 use Rattle.sheet.specs.Structure.{placesFrom, faultFrom}
-use Rattle.sheet.specs.declared.Record.{Record}
-use Rattle.sheet.proofs.Places.{View, refuses, reads, view, or-false}
+use Rattle.sheet_record.specs.declared.Record.{Record}
+use Rattle.sheet_record.proofs.Places.{View, refuses, reads, view, or-false}
 
 -- the records that the walk reads
 unfoldable pub recordsFrom : Layout → List ℕ → ℕ → ℕ → List Record

@@ -5,7 +5,7 @@ use Prim.Native.Nat.{ℕ}
 use lib.ListN.{length, take}
 use Rattle.distinct.specs.Chain.{NoLinks, Table}
 use Rattle.octets.specs.Bytes.{numberAt}
-use Rattle.sheet.specs.Layout.{layoutIn}
+use Rattle.sheet_record.specs.Layout.{layoutIn}
 use Rattle.sheet.specs.Sheet.{Accepted}
 use Rattle.sheet.specs.Structure.{placesFrom}
 

@@ -3,13 +3,13 @@ use mathlib.Core.Bool.{cond, not, _||_}
 use mathlib.Core.List.{List, [], _∷_}
 use mathlib.Core.Option.{Option, none, some}
 use mathlib.Core.Path.{_≡_}
-use Prim.Native.Nat.{ℕ, zero, suc, _+_, _≤_}
+use Prim.Native.Nat.{ℕ, zero, suc, _≤_}
 use lib.Dec.{eqb, ltb}
-use lib.ListN.{length, getD, take, drop}
+use lib.ListN.{length, take, drop}
 use Rattle.octets.specs.Bytes.{numberAt}
-use Rattle.sheet.specs.Layout.{Layout, layoutOf, layoutIn}
-use Rattle.sheet.specs.Sheet.{Front, bad, front, frontOf, past, isMarked}
-use Rattle.sheet.specs.declared.Record.{Record}
+use Rattle.sheet_record.specs.Layout.{Layout, layoutOf, layoutIn}
+use Rattle.sheet_record.specs.Front.{bad, front, frontOf, past}
+use Rattle.sheet.specs.Sheet.{isMarked}
 
 -- 3 for a version without a layout, or 0
 abbrev pub versionFault : Option Layout → ℕ
@@ -22,28 +22,6 @@ headFault s =
     cond (ltb 65536 (length s)) 1
     (cond (ltb (length s) 7 || not (isMarked s)) 2
     (versionFault (layoutOf (numberAt 2 s 3))))
-
--- the refusal of a record, or 0
-abbrev pub faultOf : Front → ℕ
-faultOf (bad k) = k
-faultOf (front f) = 0
-
--- the place behind a record at a place; its own where it is refused
-abbrev pub behind : ℕ → Front → ℕ
-behind at (bad k) = at
-behind at (front f) = past at f
-
--- the record whose length byte stands at a place
-abbrev pub entryAt : List ℕ → ℕ → Record
-entryAt s at =
-    let n : ℕ = getD s at 0 in
-    record {
-      start = at + 1;
-      len = n;
-      kind = getD s (at + 1 + n) 0;
-      first = numberAt 8 s (at + 1 + n + 1);
-      second = numberAt 8 s (at + 1 + n + 9);
-    }
 
 -- the places of the length bytes of n records from a place on, up to the first that is refused
 unfoldable pub placesFrom : Layout → List ℕ → ℕ → ℕ → List ℕ

@@ -5,7 +5,7 @@ ghost use mathlib.Core.Path.{_≡_};
 ghost use Prim.Native.Nat.{_≤_};
 ghost use lib.ListN.{length};
 use libc::STDOUT_FILENO;
-use sheet::Lookup;
+use sheet_search::Lookup;
 
 fn say(text: &[u8]) {
     io::write_all(STDOUT_FILENO, text);
@@ -46,10 +46,10 @@ fn says(found: Lookup) {
 fn finds(what: &[u8], s: &[u8], name: &[u8]) {
     say(what);
     say(b": ");
-    let found = sheet::search(s, name);
+    let found = sheet_search::search(s, name);
     says(found);
     say(b" <");
-    say(sheet::handed_back(s, found));
+    say(sheet_search::handed_back(s, found));
     say(b">\n");
 }
 

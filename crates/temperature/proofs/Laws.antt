@@ -4,15 +4,15 @@ use mathlib.Core.Path.{_≡_, refl, subst}
 use Prim.Native.Nat.{ℕ, _/_, _≤_}
 use native.Mathlib.Nat.{div-le-of-le-mul}
 use native.Mathlib.Omega.{arith}
-use lib.Dec.{T}
+use lib.Dec.{T, lit≤}
 use lib.IntN.{ℤ, pos, negsuc, natAbs}
 use lib.Signed.{_≤ℤ_, ltZ, shrZ, nonNeg}
 use Rattle.integer.specs.Z.{≤→}
 use Rattle.integer.specs.Tests.{test-le, test-not-lt}
 use Rattle.integer.specs.Laws.{≤ℤ-trans}
 use Rattle.logarithm.proofs.Quotient.{ratio-small}
-use Rattle.tgas.specs.Region.{beyondWindow}
-use Rattle.tgas.proofs.Regions.{IsPerfect}
+use Rattle.bands.specs.Region.{beyondWindow}
+use Rattle.bands.proofs.Regions.{IsPerfect}
 use Rattle.perfect.specs.Perfect.{Dividable}
 use Rattle.air.specs.declared.Logs.{Logs}
 use Rattle.air.specs.Quantities.{P0, D0}
@@ -57,5 +57,5 @@ dividable p d l h r =
     record {
       some = omega arith;
       most = hi;
-      ratio = ratio-small p P0 d D0 (l .x) (l .y) (h .taken .x) (h .taken .y) (subst (λ (x : ℤ). x ≤ℤ pos 999998) (h .taken .z) z);
+      ratio = ratio-small 1 999998 p P0 d D0 (l .x) (l .y) (lit≤ tt) (h .taken .x) (h .taken .y) (subst (λ (x : ℤ). x ≤ℤ pos 999998) (h .taken .z) z);
     }

@@ -2,8 +2,8 @@
 use Prim.Native.Nat.{ℕ, _≤_, _<_}
 use lib.Dec.{T}
 use lib.IntN.{ℤ, natAbs}
-use Rattle.tgas.specs.declared.Band.{Band}
-use Rattle.tgas.specs.Temperature.{pieceCount}
+use Rattle.bands.specs.declared.Band.{Band}
+use Rattle.bands.specs.Region.{pieceCount}
 use Rattle.air.specs.declared.Logs.{Logs}
 use Rattle.air.specs.Quantities.{isDensity}
 use Rattle.air.specs.Temperature.{TemperatureLogs}

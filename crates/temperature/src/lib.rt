@@ -3,17 +3,18 @@ use air::Answer;
 use air::Edges;
 use air::Ends;
 use air::Logs;
+use air::answers;
+use bands::Band;
+use bands::Region;
 use fit::Edge;
-use tgas::Band;
-use tgas::Region;
 ghost use mathlib.Core.Bool.{false};
 ghost use mathlib.Core.Path.{_≡_};
 ghost use mathlib.Core.Option.{some};
-ghost use Rattle.tgas.specs.declared.Strip.the-variants.{Clear};
-ghost use Rattle.tgas.specs.Temperature.{temperaturePiece};
-ghost use Rattle.air.specs.Held.{held, judges};
+ghost use Rattle.bands.specs.declared.Strip.the-variants.{Clear};
+ghost use Rattle.tgas1_temperature.specs.Pieces.{temperaturePiece};
+ghost use Rattle.air.specs.Held.{held};
 ghost use Rattle.air.specs.Places.{heldAt, pointOf, edgeBy};
-ghost use Rattle.air.specs.Temperature.{letterT, beyondFit, temperatureRule};
+ghost use Rattle.air.specs.Temperature.{beyondFit, temperatureRule};
 ghost use Rattle.air.specs.Choices.{chosen};
 ghost use Rattle.air.specs.State.{kelvinBy, temperatureBy, temperatureProperty, heldBy};
 ghost use Rattle.temperature.specs.Ready.{PieceReady, TemperatureReady};
@@ -23,7 +24,7 @@ fn fit_at(band: Band, i: usize, y: i64, z: i64) -> Edge
     requires { ⌜ PieceReady band i y z ⌝ }
     ensures { λ r. ⌜ r ≡ edgeBy chosen (temperaturePiece band i) y z ⌝ }
 {
-    fit::edge_at(tgas::temperature::piece(band, i), y, z)
+    fit::edge_at(tgas1_temperature::piece(band, i), y, z)
 }
 
 // Whether a fit gets 13.
@@ -44,33 +45,15 @@ fn kelvin_of(fit: i64) -> i64
     power::kelvin_power(fit as u64 / 10000) as i64
 }
 
-// Refusal 13, with the fits that it was judged by.
-fn out_of_bounds(logs: Logs, edges: Edges) -> Answer
-    ensures { λ r. ⌜ held r ≡ judges 13 letterT logs edges ⌝ }
-{
-    Answer::Judged {
-        letter: b'T',
-        number: 13,
-        logs,
-        edges,
-    }
-}
-
 // The answer of a fit at the state's own place.
 fn unjoined(logs: Logs, e: Edge) -> Answer
     ensures { λ r. ⌜ held r ≡ heldAt temperatureRule Clear logs (λ y. pointOf (kelvinBy chosen) e) ⌝ }
 {
     let g = e.fit;
     if is_beyond(g) {
-        return out_of_bounds(logs, Edges::One(e));
+        return answers::judged(b'T', 13, logs, Edges::One(e));
     }
-    Answer::Shows {
-        letter: b'T',
-        logs,
-        edges: Edges::One(e),
-        ends: Ends::Unjoined,
-        value: kelvin_of(g),
-    }
+    answers::shown(b'T', logs, Edges::One(e), Ends::Unjoined, kelvin_of(g))
 }
 
 // A temperature's answer from its logarithms.
@@ -80,20 +63,12 @@ fn temperature_from(p: u64, d: u64, logs: Logs) -> Answer
 {
     let y = logs.y;
     let z = logs.z;
-    match tgas::region_of(y, z) {
-        Region::Refused => Answer::Judged {
-            letter: b'T',
-            number: 12,
-            logs,
-            edges: Edges::Unfitted,
-        },
-        Region::Perfect => Answer::Shows {
-            letter: b'T',
-            logs,
-            edges: Edges::Unfitted,
-            ends: Ends::Unjoined,
-            value: perfect::perfect_gas(p, d) as i64,
-        },
+    match bands::region_of(y, z) {
+        Region::Refused => answers::judged(b'T', 12, logs, Edges::Unfitted),
+        Region::Perfect => {
+            let value = perfect::perfect_gas(p, d) as i64;
+            answers::shown(b'T', logs, Edges::Unfitted, Ends::Unjoined, value)
+        }
         Region::Fitted(band, i) => unjoined(logs, fit_at(band, i, y, z)),
     }
 }

@@ -10,7 +10,7 @@ use mir.Syntax.{w64}
 use mir.Val.{SFits, toZ, ofZ}
 use borrow.Author.Needs.{needs}
 use Rattle.integer.specs.Z.{zs, ≡-by}
-use Rattle.fit.proofs.Machine.{back}
+use Rattle.integer.proofs.Machine.{back}
 use Rattle.air_vectors.proofs.size.Statement.{statement}
 use Rattle.air_vectors.proofs.size.Tie as tie
 use Rattle.air_vectors.proofs.size.Reads as reads

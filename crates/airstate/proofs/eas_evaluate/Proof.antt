@@ -1,12 +1,12 @@
 -- `airstate::eas_evaluate` meets its contract by its two calls.
 use mathlib.Core.Path.{_≡_, ap, _∙_}
-use Rattle.airstate.specs.Flat.{flat}
+use Rattle.flat.specs.Flat.{flat}
 use borrow.Author.Needs.{needs}
 use Rattle.airstate.proofs.eas_evaluate.Statement.{statement}
 use Rattle.airstate.proofs.eas_evaluate.Tie as tie
 use Rattle.airstate.proofs.eas_evaluate.Reads as reads
 use Rattle.airstate.proofs.eas_evaluate.Lts as lts
-use Rattle.airstate.proofs.flatten.Reads as flatten-reads
+use Rattle.flat.proofs.flatten.Reads as flatten-reads
 use Rattle.evaluate.proofs.evaluate.Reads as evaluate-reads
 
 evaluate-requires : tie.Need-evaluate-requires

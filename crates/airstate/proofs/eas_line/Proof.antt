@@ -1,12 +1,12 @@
 -- `airstate::eas_line` flattens what the line gives; the room is as the line leaves it.
 use mathlib.Core.Path.{_≡_, ap, _∙_}
-use Rattle.airstate.specs.Flat.{flatText}
+use Rattle.flat.specs.Flat.{flatText}
 use borrow.Author.Needs.{needs}
 use Rattle.airstate.proofs.eas_line.Statement.{statement}
 use Rattle.airstate.proofs.eas_line.Tie as tie
 use Rattle.airstate.proofs.eas_line.Reads as reads
 use Rattle.airstate.proofs.eas_line.Lts as lts
-use Rattle.airstate.proofs.flatten_text.Reads as flatten-text-reads
+use Rattle.flat.proofs.flatten_text.Reads as flatten-text-reads
 use Rattle.name.proofs.spell.Reads as spell-reads
 
 line-requires : tie.Need-line-requires

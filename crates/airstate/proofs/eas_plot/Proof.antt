@@ -1,15 +1,14 @@
 -- `airstate::eas_plot` flattens the mark of what the search holds.
 use mathlib.Core.Path.{_≡_, sym, ap, _∙_, subst}
-use Rattle.air.specs.Held.{Held}
-use Rattle.mark.specs.Mark.{markOf, DrawableFrom}
-use Rattle.airstate.specs.Flat.{flatMark}
+use Rattle.mark.specs.Mark.{markOf, CanDraw}
+use Rattle.flat.specs.Flat.{flatMark}
 use Rattle.airstate.proofs.Drawable.{search-shown}
 use borrow.Author.Needs.{needs}
 use Rattle.airstate.proofs.eas_plot.Statement.{statement}
 use Rattle.airstate.proofs.eas_plot.Tie as tie
 use Rattle.airstate.proofs.eas_plot.Reads as reads
 use Rattle.airstate.proofs.eas_plot.Lts as lts
-use Rattle.airstate.proofs.flatten_mark.Reads as flatten-mark-reads
+use Rattle.flat.proofs.flatten_mark.Reads as flatten-mark-reads
 use Rattle.calculator.proofs.search.Reads as search-reads
 use Rattle.mark.proofs.mark_of.Reads as mark-of-reads
 
@@ -19,7 +18,7 @@ search-requires c κs = search needs
 mark-of-requires : tie.Need-mark-of-requires
 mark-of-requires c κs =
     let s = c .before .before .before in
-    subst (λ (h : Held). DrawableFrom (h .logs) (h .value)) (sym (c .search .ensures)) (search-shown (s .args .sheet .now) (s .args .spelled .now))
+    subst CanDraw (sym (c .search .ensures)) (search-shown (s .args .sheet .now) (s .args .spelled .now))
 
 flatten-mark-requires : tie.Need-flatten-mark-requires
 flatten-mark-requires c κs = search needs

@@ -6,7 +6,8 @@ use lib.Seq.{length-take-le}
 use Rattle.octets.specs.Room.{Text, outcomeOf}
 use Rattle.octets.specs.declared.Outcome.the-variants.{Done}
 use Rattle.name.proofs.Answers.{Read, read-done, read-refused}
-use Rattle.airstate.specs.Flat.{flatText, overlaid}
+use Rattle.flat.specs.Flat.{flatText}
+use Rattle.airstate.specs.Texts.{overlaid}
 use borrow.Author.Needs.{needs}
 use Rattle.airstate.proofs.eas_read.Statement.{statement}
 use Rattle.airstate.proofs.eas_read.Tie as tie

@@ -1,12 +1,12 @@
 -- `airstate::eas_search` meets its contract by its two calls.
 use mathlib.Core.Path.{_≡_, ap, _∙_}
-use Rattle.airstate.specs.Flat.{flat}
+use Rattle.flat.specs.Flat.{flat}
 use borrow.Author.Needs.{needs}
 use Rattle.airstate.proofs.eas_search.Statement.{statement}
 use Rattle.airstate.proofs.eas_search.Tie as tie
 use Rattle.airstate.proofs.eas_search.Reads as reads
 use Rattle.airstate.proofs.eas_search.Lts as lts
-use Rattle.airstate.proofs.flatten.Reads as flatten-reads
+use Rattle.flat.proofs.flatten.Reads as flatten-reads
 use Rattle.calculator.proofs.search.Reads as search-reads
 
 search-requires : tie.Need-search-requires

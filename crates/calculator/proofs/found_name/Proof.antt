@@ -1,6 +1,6 @@
 -- `calculator::found_name` hands back the part of the sheet that holds the found name.
 use mathlib.Core.Path.{_≡_, sym, ap, _∙_, subst}
-use Rattle.sheet.specs.Find.{handedBack, Inside}
+use Rattle.sheet_search.specs.Find.{handedBack, Inside}
 use Rattle.calculator.proofs.Located.{locate-inside}
 use borrow.Author.Needs.{needs}
 use Rattle.calculator.proofs.found_name.Statement.{statement}
@@ -8,7 +8,7 @@ use Rattle.calculator.proofs.found_name.Tie as tie
 use Rattle.calculator.proofs.found_name.Reads as reads
 use Rattle.calculator.proofs.found_name.Lts as lts
 use Rattle.calculator.proofs.locate.Reads as locate-reads
-use Rattle.sheet.proofs.handed_back.Reads as handed-back-reads
+use Rattle.sheet_search.proofs.handed_back.Reads as handed-back-reads
 
 locate-requires : tie.Need-locate-requires
 locate-requires c κs = search needs

@@ -9,7 +9,7 @@ use Rattle.calculator.proofs.locate_in.Tie as tie
 use Rattle.calculator.proofs.locate_in.Reads as reads
 use Rattle.calculator.proofs.locate_in.Lts as lts
 use Rattle.name.proofs.read.Reads as read-reads
-use Rattle.sheet.proofs.find.Reads as find-reads
+use Rattle.sheet_search.proofs.find.Reads as find-reads
 
 whole : (c : tie.After-known-told2) → let s = c .before .before .before .before .before .before .before in Read (s .args .spelled .now) (c .before .before .before .before .read .result .bytes) (c .before .outcome2 .given .0 .0)
 whole c = read-done _ _ (c .before .outcome2 .given .0 .0) (c .before .before .before .before .read .ensures) (c .before .outcome2 .given .1)

@@ -4,7 +4,8 @@ use native.Mathlib.Omega.{arith}
 use lib.IntN.{ℤ, pos}
 use lib.Signed.{ltZ}
 use borrow.Author.Needs.{needs}
-use Rattle.decimal.proofs.Signs.{back, Below, below, Above, above, put-negative, put-positive}
+use Rattle.integer.proofs.Machine.{back}
+use Rattle.decimal.proofs.Signs.{Below, below, Above, above, put-negative, put-positive}
 use Rattle.decimal.proofs.put_whole.Statement.{statement}
 use Rattle.decimal.proofs.put_whole.Tie as tie
 

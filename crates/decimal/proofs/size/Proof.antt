@@ -4,7 +4,8 @@ use native.Mathlib.Omega.{arith}
 use lib.IntN.{ℤ, pos}
 use lib.Signed.{ltZ}
 use borrow.Author.Needs.{needs}
-use Rattle.decimal.proofs.Signs.{back, Below, below, Above, above}
+use Rattle.integer.proofs.Machine.{back}
+use Rattle.decimal.proofs.Signs.{Below, below, Above, above}
 use Rattle.decimal.proofs.size.Statement.{statement}
 use Rattle.decimal.proofs.size.Tie as tie
 

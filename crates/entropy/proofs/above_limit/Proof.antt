@@ -1,8 +1,8 @@
 -- `entropy::above_limit` compares Z with the limit of its band.
 use mathlib.Core.Path.{_≡_, ap, _∙_}
 use borrow.Author.Needs.{needs}
-use Rattle.fit.proofs.Machine.{back, back-ok}
-use Rattle.tgas.specs.Entropy.{entropyLimit}
+use Rattle.integer.proofs.Machine.{back, back-ok}
+use Rattle.tgas2_entropy.specs.Entropy.{entropyLimit}
 use Rattle.entropy.proofs.above_limit.Statement.{statement}
 use Rattle.entropy.proofs.above_limit.Tie as tie
 

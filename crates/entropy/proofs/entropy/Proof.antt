@@ -11,7 +11,7 @@ use mir.Syntax.{w64}
 use mir.Val.{toZ, ofZ}
 use Rattle.integer.specs.Tests.{is-true}
 use Rattle.logarithm.specs.Choice.{logOf}
-use Rattle.fit.proofs.Machine.{back-ok}
+use Rattle.integer.proofs.Machine.{back-ok}
 use Rattle.air.specs.declared.Logs.{Logs}
 use Rattle.air.specs.Quantities.{D0, E0, within, isEnergy, isDensity}
 use Rattle.air.specs.Entropy.{entropyFrom}

@@ -11,11 +11,12 @@ use mir.Val.{SFits, toZ, ofZ}
 use Rattle.integer.specs.Laws.{abs-+}
 use Rattle.fit.specs.Range.{In}
 use Rattle.fit.specs.Fit.{bicubic}
-use Rattle.fit.proofs.Machine.{back, back-ok, in-back, in-ok, fits64}
+use Rattle.integer.proofs.Machine.{back, back-ok, fits64}
+use Rattle.fit.proofs.Machine.{in-back, in-ok}
 use Rattle.fit.proofs.Scaling.{entropy-rise-size}
-use Rattle.tgas.specs.Bands.{bandOf}
-use Rattle.tgas.specs.Entropy.{entropyCoefficients}
-use Rattle.tgas.proofs.Pieces.{entropy-small}
+use Rattle.bands.specs.Bands.{bandOf}
+use Rattle.tgas2_entropy.specs.Entropy.{entropyCoefficients}
+use Rattle.tgas2_entropy.proofs.Sizes.{entropy-small}
 use Rattle.perfect.specs.Perfect.{R}
 use Rattle.air.specs.Entropy.{rise, perfectEntropy, fittedEntropy, entropyAt}
 use Rattle.air.proofs.Sizes.{in-25, bicubic-in, rise-in}

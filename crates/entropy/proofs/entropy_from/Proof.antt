@@ -1,9 +1,9 @@
 -- `entropy::entropy_from` follows the strip of Y.
 use mathlib.Core.Path.{_≡_, sym, ap, _∙_}
 use borrow.Author.Needs.{needs}
-use Rattle.fit.proofs.Machine.{back}
-use Rattle.tgas.specs.declared.Strip.{Strip}
-use Rattle.tgas.specs.Bands.{stripOf}
+use Rattle.integer.proofs.Machine.{back}
+use Rattle.bands.specs.declared.Strip.{Strip}
+use Rattle.bands.specs.Bands.{stripOf}
 use Rattle.air.specs.Entropy.{entropyIn}
 use Rattle.entropy.proofs.Laws.{strip-ready}
 use Rattle.entropy.proofs.entropy_from.Statement.{statement}

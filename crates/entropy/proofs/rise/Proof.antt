@@ -9,7 +9,7 @@ use mir.Syntax.{w64}
 use mir.Val.{SFits}
 use Rattle.integer.specs.Z.{zs, v}
 use Rattle.integer.specs.Laws.{abs-is, abs-by}
-use Rattle.fit.proofs.Machine.{back, fits64}
+use Rattle.integer.proofs.Machine.{back, fits64}
 use Rattle.air.specs.Entropy.{rise}
 use Rattle.air.proofs.Sizes.{rise-in}
 use Rattle.entropy.specs.Ready.{PlaceReady}

@@ -1,7 +1,7 @@
 -- `entropy::unjoined` is the answer outside the strips.
 use mathlib.Core.Path.{_≡_, sym, _∙_}
 use borrow.Author.Needs.{needs}
-use Rattle.fit.proofs.Machine.{back, back-ok}
+use Rattle.integer.proofs.Machine.{back, back-ok}
 use Rattle.air.specs.Entropy.{entropyAt, aboveLimit}
 use Rattle.entropy.proofs.Laws.{beyond-clear, shown-clear}
 use Rattle.entropy.proofs.unjoined.Statement.{statement}

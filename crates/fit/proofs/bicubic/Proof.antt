@@ -9,7 +9,8 @@ use mir.Val.{SFits, toZ, ofZ}
 use Rattle.fit.specs.Range.{In}
 use Rattle.fit.specs.Fit.{gas1, gas2, gas3, gas4, bicubic}
 use Rattle.fit.proofs.Size.{upto-plus}
-use Rattle.fit.proofs.Machine.{back, back-ok, in-back, in-wider, in-fits, all-at}
+use Rattle.integer.proofs.Machine.{back, back-ok}
+use Rattle.fit.proofs.Machine.{in-back, in-wider, in-fits, all-at}
 use Rattle.fit.proofs.Ranges.{within, linear-upto, linear-by-upto, square-upto}
 use Rattle.fit.proofs.bicubic.Statement.{statement}
 use Rattle.fit.proofs.bicubic.Tie as tie

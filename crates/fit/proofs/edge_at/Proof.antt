@@ -9,7 +9,8 @@ use Rattle.weight.proofs.Near.{weight-is}
 use Rattle.fit.specs.Range.{In}
 use Rattle.fit.specs.Fit.{bicubic, exponent, joint}
 use Rattle.fit.specs.Edge.{Workable}
-use Rattle.fit.proofs.Machine.{back, back-ok, in-back, in-ok}
+use Rattle.integer.proofs.Machine.{back, back-ok}
+use Rattle.fit.proofs.Machine.{in-back, in-ok}
 use Rattle.fit.proofs.Pieces.{first-small, first-in, as-joint, alone-edge, joint-edge}
 use Rattle.fit.proofs.edge_at.Statement.{statement}
 use Rattle.fit.proofs.edge_at.Tie as tie

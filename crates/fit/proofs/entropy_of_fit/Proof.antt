@@ -5,7 +5,7 @@ use Prim.Native.Nat.{_^_}
 use lib.Dec.{lit<, lit≤}
 use lib.IntN.{ℤ, pos, *ℤ-comm}
 use lib.Signed.{shrZ}
-use Rattle.fit.proofs.Machine.{back, back-ok}
+use Rattle.integer.proofs.Machine.{back, back-ok}
 use Rattle.fit.proofs.Ranges.{splits}
 use Rattle.fit.proofs.entropy_of_fit.Statement.{statement}
 use Rattle.fit.proofs.entropy_of_fit.Tie as tie

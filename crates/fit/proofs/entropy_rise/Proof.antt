@@ -7,7 +7,7 @@ use lib.Dec.{lit<, lit≤}
 use lib.IntN.{ℤ, pos, _*ℤ_}
 use lib.Signed.{shrZ}
 use Rattle.integer.specs.Z.{zs, v, ≡-by}
-use Rattle.fit.proofs.Machine.{back, back-ok}
+use Rattle.integer.proofs.Machine.{back, back-ok}
 use Rattle.fit.proofs.Ranges.{splits}
 use Rattle.fit.proofs.entropy_rise.Statement.{statement}
 use Rattle.fit.proofs.entropy_rise.Tie as tie

@@ -8,7 +8,8 @@ use mir.Syntax.{w64}
 use mir.Val.{SFits, toZ, ofZ}
 use Rattle.fit.specs.Range.{In}
 use Rattle.fit.specs.Fit.{coefficient, mul, exponent}
-use Rattle.fit.proofs.Machine.{back, back-ok, in-back, in-ok, in-wider, in-fits, all-at}
+use Rattle.integer.proofs.Machine.{back, back-ok}
+use Rattle.fit.proofs.Machine.{in-back, in-ok, in-wider, in-fits, all-at}
 use Rattle.fit.proofs.Ranges.{sum-in, term-in, exponent-size}
 use Rattle.fit.proofs.exponent.Statement.{statement}
 use Rattle.fit.proofs.exponent.Tie as tie

@@ -1,6 +1,7 @@
 -- `fit::floor_div` rounds down on both sides of 0: what it divides is above 0.
 use native.Mathlib.Omega.{arith}
-use Rattle.fit.proofs.Machine.{back, above-zero, Lifts, lifts}
+use Rattle.integer.proofs.Machine.{back}
+use Rattle.fit.proofs.Machine.{above-zero, Lifts, lifts}
 use Rattle.fit.proofs.floor_div.Statement.{statement}
 use Rattle.fit.proofs.floor_div.Tie as tie
 

@@ -4,7 +4,8 @@ use Prim.Native.Nat.{_≤_}
 use lib.Dec.{lit<}
 use lib.IntN.{natAbs}
 use Rattle.fit.specs.Fit.{mul}
-use Rattle.fit.proofs.Machine.{back, back-ok, tested}
+use Rattle.integer.proofs.Machine.{back, back-ok}
+use Rattle.fit.proofs.Machine.{tested}
 use Rattle.fit.proofs.Ranges.{mul-splits, short-splits, short-divides}
 use Rattle.fit.proofs.mul.Statement.{statement}
 use Rattle.fit.proofs.mul.Tie as tie

@@ -4,7 +4,8 @@ use lib.IntN.{ℤ, natAbs, _-ℤ_, _*ℤ_}
 use lib.Signed.{shrZ}
 use mir.Syntax.{w64}
 use mir.Val.{toZ, ofZ}
-use Rattle.fit.proofs.Machine.{back, back-ok, Steps, steps}
+use Rattle.integer.proofs.Machine.{back, back-ok}
+use Rattle.fit.proofs.Machine.{Steps, steps}
 use Rattle.fit.proofs.mul_div.Statement.{statement}
 use Rattle.fit.proofs.mul_div.Tie as tie
 

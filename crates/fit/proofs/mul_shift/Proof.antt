@@ -4,7 +4,8 @@ use Prim.Native.Nat.{_^_}
 use native.Mathlib.Omega.{arith}
 use lib.IntN.{natAbs}
 use lib.Signed.{shrZ}
-use Rattle.fit.proofs.Machine.{back, quotient-fits, Steps, steps}
+use Rattle.integer.proofs.Machine.{back}
+use Rattle.fit.proofs.Machine.{quotient-fits, Steps, steps}
 use Rattle.fit.proofs.mul_shift.Statement.{statement}
 use Rattle.fit.proofs.mul_shift.Tie as tie
 

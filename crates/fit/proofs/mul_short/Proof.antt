@@ -5,7 +5,7 @@ use lib.Signed.{shrZ}
 use mir.Syntax.{w64}
 use mir.Val.{toZ, ofZ}
 use Rattle.fit.proofs.Floors.{twice}
-use Rattle.fit.proofs.Machine.{back, back-ok}
+use Rattle.integer.proofs.Machine.{back, back-ok}
 use Rattle.fit.proofs.mul_short.Statement.{statement}
 use Rattle.fit.proofs.mul_short.Tie as tie
 

@@ -8,7 +8,7 @@ use lib.Signed.{shrZ}
 use mir.Syntax.{w64}
 use mir.Val.{toZ, ofZ}
 use Rattle.weight.specs.Weight.{units}
-use Rattle.fit.proofs.Machine.{back, back-ok}
+use Rattle.integer.proofs.Machine.{back, back-ok}
 use Rattle.fit.proofs.Ranges.{divides}
 use Rattle.fit.proofs.Scaling.{Scaling, scaling}
 use Rattle.fit.proofs.scaled_wide.Statement.{statement}

@@ -5,7 +5,7 @@ use lib.Signed.{shrZ}
 use mir.Syntax.{w64}
 use mir.Val.{toZ, ofZ}
 use Rattle.fit.specs.Fit.{straight}
-use Rattle.fit.proofs.Machine.{back, back-ok}
+use Rattle.integer.proofs.Machine.{back, back-ok}
 use Rattle.fit.proofs.Line.{Line, line}
 use Rattle.fit.proofs.straight.Statement.{statement}
 use Rattle.fit.proofs.straight.Tie as tie

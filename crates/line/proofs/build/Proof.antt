@@ -1,5 +1,5 @@
 -- `line::build` meets its contract: every line fits its 192 bytes. Assumes nothing.
-use Rattle.decimal.proofs.Signs.{back}
+use Rattle.integer.proofs.Machine.{back}
 use Rattle.line.proofs.Stores.{built}
 use borrow.Author.Needs.{needs}
 use Rattle.line.proofs.build.Statement.{statement}

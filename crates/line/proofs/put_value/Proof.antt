@@ -1,6 +1,6 @@
 -- `line::put_value` meets its contract. Assumes nothing.
 use native.Mathlib.Omega.{arith}
-use Rattle.decimal.proofs.Signs.{back}
+use Rattle.integer.proofs.Machine.{back}
 use Rattle.line.proofs.Stores.{value-put}
 use borrow.Author.Needs.{needs}
 use Rattle.line.proofs.put_value.Statement.{statement}

@@ -1,11 +1,11 @@
 -- `mark::mark_of` is the mark of what the answer holds.
 use mathlib.Core.Path.{_≡_, sym, ap, _∙_, subst}
 use borrow.Author.Needs.{needs}
-use Rattle.fit.proofs.Machine.{back}
+use Rattle.integer.proofs.Machine.{back}
 use Rattle.air.specs.declared.Answer.{Answer}
 use Rattle.air.specs.Held.{held}
 use Rattle.mark.specs.declared.Mark.the-variants.{At}
-use Rattle.mark.specs.Mark.{markOf, DrawableFrom}
+use Rattle.mark.specs.Mark.{markOf, CanDraw}
 use Rattle.mark.proofs.mark_of.Statement.{statement}
 use Rattle.mark.proofs.mark_of.Tie as tie
 use Rattle.mark.proofs.mark_of.Reads as reads
@@ -26,7 +26,7 @@ point-of-requires c κs =
     let a = c .before .before in
     let g = a .a3 .given .0 in
     rw (back {z = g .1 .0 .y} (search needs), back {z = g .1 .1 .1 .1 .0} (search needs))
-    (subst (λ (x : Answer). DrawableFrom (held x .logs) (held x .value)) (a .a3 .given .1) (a .before .before .pre))
+    (subst (λ (x : Answer). CanDraw (held x)) (a .a3 .given .1) (a .before .before .pre))
 
 returns : tie.Need-returns
 unfolding markOf

@@ -2,7 +2,7 @@
 use mathlib.Core.Path.{refl, sym, _∙_}
 use denote.Ref.{now}
 use native.Mathlib.Omega.{arith}
-use Rattle.sheet.specs.Layout.{layoutIn}
+use Rattle.sheet_record.specs.Layout.{layoutIn}
 use Rattle.sheet.proofs.Turns.{Walking, walking-ends, walking-goes, stops-refused, stops-end, goes}
 use borrow.Author.Needs.{needs}
 use Rattle.sheet.proofs.walk_records.Statement.{statement}

@@ -1,15 +1,15 @@
 -- `sheet_vectors::finds` is safe: what was found lies in the sheet.
 use mathlib.Core.Path.{sym, subst}
 use denote.Ref.{now}
-use Rattle.sheet.specs.Find.{Inside}
-use Rattle.sheet.proofs.Searching.{find-inside}
+use Rattle.sheet_search.specs.Find.{Inside}
+use Rattle.sheet_search.proofs.Searching.{find-inside}
 use borrow.Author.Needs.{needs}
 use Rattle.sheet_vectors.proofs.finds.Statement.{statement}
 use Rattle.sheet_vectors.proofs.finds.Tie as tie
 use Rattle.sheet_vectors.proofs.finds.Reads as reads
 use Rattle.sheet_vectors.proofs.finds.Lts as lts
-use Rattle.sheet.proofs.handed_back.Reads as handed-back-reads
-use Rattle.sheet.proofs.search.Reads as search-reads
+use Rattle.sheet_search.proofs.handed_back.Reads as handed-back-reads
+use Rattle.sheet_search.proofs.search.Reads as search-reads
 use Rattle.sheet_vectors.proofs.say.Reads as say-reads
 use Rattle.sheet_vectors.proofs.says.Reads as says-reads
 

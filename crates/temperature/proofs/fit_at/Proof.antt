@@ -5,9 +5,10 @@ use borrow.Author.Needs.{needs}
 use Rattle.weight.specs.Choice.{weightOf}
 use Rattle.fit.specs.Fit.{Piece}
 use Rattle.fit.specs.Edge.{edgeWith}
-use Rattle.fit.proofs.Machine.{back, in-back}
+use Rattle.integer.proofs.Machine.{back}
+use Rattle.fit.proofs.Machine.{in-back}
 use Rattle.fit.proofs.Pieces.{workable}
-use Rattle.tgas.proofs.Pieces.{piece-small}
+use Rattle.tgas1_temperature.proofs.Pieces.{piece-small}
 use Rattle.air.proofs.Sizes.{in-23}
 use Rattle.temperature.proofs.fit_at.Statement.{statement}
 use Rattle.temperature.proofs.fit_at.Tie as tie

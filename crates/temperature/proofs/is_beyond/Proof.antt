@@ -4,7 +4,7 @@ use mathlib.Core.Path.{sym, ap}
 use lib.IntN.{pos}
 use lib.Signed.{ltZ}
 use borrow.Author.Needs.{needs}
-use Rattle.fit.proofs.Machine.{back}
+use Rattle.integer.proofs.Machine.{back}
 use Rattle.temperature.proofs.is_beyond.Statement.{statement}
 use Rattle.temperature.proofs.is_beyond.Tie as tie
 

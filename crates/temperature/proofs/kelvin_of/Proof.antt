@@ -10,7 +10,7 @@ use mir.Facts.{toZ-pos}
 use Prim.Native.Nat.{_/_, _^_, _<_}
 use Rattle.power.specs.Choice.{powerOf}
 use Rattle.power.proofs.Kelvin.{power-small}
-use Rattle.fit.proofs.Machine.{back}
+use Rattle.integer.proofs.Machine.{back}
 use Rattle.temperature.proofs.Laws.{Passes, passes, kelvin-range}
 use Rattle.temperature.proofs.kelvin_of.Statement.{statement}
 use Rattle.temperature.proofs.kelvin_of.Tie as tie

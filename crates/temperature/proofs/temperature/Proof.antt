@@ -13,7 +13,7 @@ use Rattle.integer.specs.Laws.{abs--}
 use Rattle.integer.specs.Tests.{is-true}
 use Rattle.logarithm.specs.Choice.{logOf}
 use Rattle.logarithm.proofs.Ratios.{log-small}
-use Rattle.fit.proofs.Machine.{back, back-ok, fits64}
+use Rattle.integer.proofs.Machine.{back, back-ok, fits64}
 use Rattle.air.specs.declared.Logs.{Logs}
 use Rattle.air.specs.Quantities.{P0, D0, isPressure, isDensity}
 use Rattle.air.specs.Choices.{chosen}

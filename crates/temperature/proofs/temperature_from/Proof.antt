@@ -5,12 +5,12 @@ use native.Mathlib.Omega.{arith}
 use borrow.Author.Needs.{needs}
 use mir.Syntax.{w64}
 use mir.Facts.{toZ-pos}
-use Rattle.fit.proofs.Machine.{back}
-use Rattle.tgas.specs.declared.Region.{Region}
-use Rattle.tgas.specs.Region.{regionOf}
-use Rattle.tgas.specs.declared.Band.{Band}
-use Rattle.tgas.specs.Temperature.{temperaturePiece}
-use Rattle.tgas.proofs.Regions.{perfect-region, IsFitted, fitted-region}
+use Rattle.integer.proofs.Machine.{back}
+use Rattle.bands.specs.declared.Region.{Region}
+use Rattle.bands.specs.Region.{regionOf}
+use Rattle.bands.specs.declared.Band.{Band}
+use Rattle.tgas1_temperature.specs.Pieces.{temperaturePiece}
+use Rattle.bands.proofs.Regions.{perfect-region, IsFitted, fitted-region}
 use Rattle.perfect.specs.Perfect.{Dividable}
 use Rattle.perfect.proofs.Quotient.{perfect-small}
 use Rattle.air.specs.Choices.{chosen}
@@ -36,6 +36,9 @@ region-of-requires c κs = search needs
 enum-told : tie.Need-enum-told
 enum-told c = search needs
 
+judged-requires : tie.Need-judged-requires
+judged-requires c κs = search needs
+
 enum-told-2 : tie.Need-enum-told-2
 enum-told-2 c = search needs
 
@@ -53,8 +56,11 @@ small c =
     let s = c .before .before .before .before .before .before in
     rw (c .perfect-gas .ensures) (omega (arith, perfect-small (s .args .p) (s .args .d) (divides (c .before))))
 
-cast-t14 : tie.Need-cast-t14
-cast-t14 c = record { sfits = small c }
+cast-value : tie.Need-cast-value
+cast-value c = record { sfits = small c }
+
+shown-requires : tie.Need-shown-requires
+shown-requires c κs = search needs
 
 enum-known-band : tie.Need-enum-known-band
 enum-known-band c = search needs
@@ -90,17 +96,18 @@ unjoined-requires c κs = search needs
 returns : tie.Need-returns
 unfolding temperatureBy
 returns c =
-    let a = c .before .before in
+    let a = c .before .before .before in
     let s = a .before .before .before in
-    sym (ap (λ (r : Region). temperatureAt chosen r (s .args .p) (s .args .d) (s .args .logs)) (sym (region a) ∙ c .enum-told .given .1))
+    c .judged .ensures ∙ sym (ap (λ (r : Region). temperatureAt chosen r (s .args .p) (s .args .d) (s .args .logs)) (sym (region a) ∙ c .before .enum-told .given .1))
 
 returns-2 : tie.Need-returns-2
 unfolding temperatureBy
 returns-2 c =
-    let a = c .before .before .before in
+    let g = c .before in
+    let a = g .before .before .before in
     let s = a .before .before .before in
-    rw (toZ-pos w64 (small c), c .perfect-gas .ensures)
-    (sym (ap (λ (r : Region). temperatureAt chosen r (s .args .p) (s .args .d) (s .args .logs)) (sym (region a) ∙ c .before .enum-told2 .given .1)))
+    (rw (toZ-pos w64 (small g), g .perfect-gas .ensures) at (c .shown .ensures))
+    ∙ sym (ap (λ (r : Region). temperatureAt chosen r (s .args .p) (s .args .d) (s .args .logs)) (sym (region a) ∙ g .before .enum-told2 .given .1))
 
 returns-3 : tie.Need-returns-3
 unfolding temperatureBy
@@ -119,9 +126,11 @@ temperature-from-spec =
     (tie.spec
     region-of-requires
     enum-told
+    judged-requires
     enum-told-2
     perfect-gas-requires
-    cast-t14
+    cast-value
+    shown-requires
     enum-known-band
     fit-at-requires
     unjoined-requires

@@ -4,8 +4,8 @@ use mathlib.Core.Path.{_≡_, refl, sym, ap, _∙_}
 use lib.IntN.{ℤ}
 use borrow.Author.Needs.{needs}
 use Rattle.fit.specs.declared.Edge.{Edge}
-use Rattle.fit.proofs.Machine.{back, back-ok}
-use Rattle.tgas.specs.declared.Strip.the-variants.{Clear}
+use Rattle.integer.proofs.Machine.{back, back-ok}
+use Rattle.bands.specs.declared.Strip.the-variants.{Clear}
 use Rattle.air.specs.declared.Edges.the-variants.{One}
 use Rattle.air.specs.declared.Ends.the-variants.{Unjoined}
 use Rattle.air.specs.Held.{shows}
@@ -23,15 +23,15 @@ is-beyond-requires c κs = search needs
 beyond : (c : tie.After-is-beyond) → c .is-beyond .result ≡ beyondFit (c .before .before .args .e .fit)
 beyond c = rw (back {z = c .before .before .args .e .fit} (search needs)) at (c .is-beyond .ensures)
 
-out-of-bounds-requires : tie.Need-out-of-bounds-requires
-out-of-bounds-requires c κs = search needs
+judged-requires : tie.Need-judged-requires
+judged-requires c κs = search needs
 
 returns : tie.Need-returns
 returns c =
     let a = c .before .before in
     let s = a .before .before in
     let e : Edge = s .args .e in
-    c .out-of-bounds .ensures ∙ fit-refused temperatureRule Clear (s .args .logs) (λ y. pointOf (kelvinBy chosen) e) refl (sym (beyond a) ∙ c .before .if1 .taken)
+    c .judged .ensures ∙ fit-refused temperatureRule Clear (s .args .logs) (λ y. pointOf (kelvinBy chosen) e) refl (sym (beyond a) ∙ c .before .if1 .taken)
 
 stays : (c : tie.Else1) → beyondFit (c .before .before .before .args .e .fit) ≡ false
 stays c = sym (beyond (c .before)) ∙ c .if1 .left
@@ -39,13 +39,17 @@ stays c = sym (beyond (c .before)) ∙ c .if1 .left
 kelvin-of-requires : tie.Need-kelvin-of-requires
 kelvin-of-requires c κs = rw (back {z = c .before .before .before .args .e .fit} (search needs)) (stays c)
 
+shown-requires : tie.Need-shown-requires
+shown-requires c κs = search needs
+
 returns-2 : tie.Need-returns-2
 returns-2 c =
-    let s = c .before .before .before .before in
+    let k = c .before in
+    let s = k .before .before .before .before in
     let e : Edge = s .args .e in
-    rw (back-ok (c .kelvin-of .result) (c .kelvin-of .ok))
-    (ap (λ (v : ℤ). shows letterT (s .args .logs) (One e) Unjoined v) (rw (back {z = e .fit} (search needs)) at (c .kelvin-of .ensures))
-    ∙ fit-shown temperatureRule Clear (s .args .logs) (λ y. pointOf (kelvinBy chosen) e) refl (stays (c .before)))
+    (rw (back-ok (k .kelvin-of .result) (k .kelvin-of .ok)) at (c .shown .ensures))
+    ∙ ap (λ (v : ℤ). shows letterT (s .args .logs) (One e) Unjoined v) (rw (back {z = e .fit} (search needs)) at (k .kelvin-of .ensures))
+    ∙ fit-shown temperatureRule Clear (s .args .logs) (λ y. pointOf (kelvinBy chosen) e) refl (stays (k .before))
 
 pub unjoined-spec : {M : Type 1} → statement M
-unjoined-spec = tie.close (tie.spec is-beyond-requires out-of-bounds-requires returns kelvin-of-requires returns-2)
+unjoined-spec = tie.close (tie.spec is-beyond-requires judged-requires returns kelvin-of-requires shown-requires returns-2)

@@ -1,0 +1,148 @@
+-- Every value that a state's answer shows, and its Y, can be drawn exactly.
+use mathlib.Core.Bool.{Bool, true, false, cond}
+use mathlib.Core.Path.{_≡_, refl, sym, subst}
+use Prim.Native.Nat.{ℕ, suc, _+_, _-_, _*_, _/_, _^_, _≤_, _<_}
+use native.Mathlib.Nat.{le-trans, le-of-lt, mul-le-mul-left}
+use native.Mathlib.Omega.{arith}
+use lib.Dec.{T, le→leb, lit≤}
+use lib.IntN.{ℤ, pos, negsuc, natAbs, _-ℤ_, _*ℤ_}
+use lib.Signed.{_≤ℤ_, _<ℤ_, shrZ}
+use lib.Ieee.{binary64, inFloat}
+use Rattle.integer.specs.Z.{up, dn, zs, v, ≤→, <→, →≤, ≡-by}
+use Rattle.integer.specs.Laws.{abs-+, abs--, abs-*}
+use Rattle.power.specs.Choice.{powerOf}
+use Rattle.power.proofs.Kelvin.{power-small}
+use Rattle.fit.specs.Range.{Between}
+use Rattle.fit.specs.Fit.{straight}
+use Rattle.fit.proofs.Floors.{quotient-upto}
+use Rattle.bands.specs.declared.Region.{Region}
+use Rattle.bands.specs.declared.Region.the-variants.{Refused, Perfect, Fitted}
+use Rattle.bands.specs.declared.Strip.{Strip}
+use Rattle.bands.specs.declared.Strip.the-variants.{Clear}
+use Rattle.bands.specs.declared.Strip.the-variants as strip
+use Rattle.bands.specs.Bands.{stripOf}
+use Rattle.bands.specs.Region.{regionOf}
+use Rattle.bands.proofs.Regions.{perfect-region}
+use Rattle.perfect.proofs.Quotient.{perfect-small}
+use Rattle.kind.specs.declared.Kind.{Kind}
+use Rattle.kind.specs.declared.Kind.the-variants.{Temperature, Entropy, Unknown}
+use Rattle.kind.specs.Kind.{kindOf}
+use Rattle.air.specs.declared.Logs.{Logs}
+use Rattle.air.specs.declared.Edges.the-variants.{Unfitted}
+use Rattle.air.specs.declared.Ends.the-variants.{Unjoined}
+use Rattle.air.specs.Quantities.{isPressure, isDensity, isEnergy}
+use Rattle.air.specs.Held.{Held, judges, shows}
+use Rattle.air.specs.Places.{Rule, Point, edgesAt, valueAt, showsAt, heldAt, pointBy}
+use Rattle.air.specs.Temperature.{beyondFit, temperatureRule, temperatureStrip}
+use Rattle.air.specs.Entropy.{letterS, entropyAt, aboveLimit, entropyIn}
+use Rattle.air.specs.Join.{joined, anyPlace}
+use Rattle.air.specs.Choices.{chosen}
+use Rattle.air.specs.State.{propertyOf, heldBy, answerBy, ranged, kelvinBy, temperatureAt, temperatureBy, temperatureLogs, entropyLogs}
+use Rattle.air.proofs.Fit.{YRange}
+use Rattle.air.proofs.Claims.{y-range}
+use Rattle.air.proofs.Allowed.{lawful, temperature-logs, entropy-logs}
+use Rattle.air.proofs.Sizes.{entropy-most}
+use Rattle.temperature.specs.Ready.{TemperatureReady}
+use Rattle.temperature.proofs.Laws.{passes, kelvin-range, dividable}
+use Rattle.entropy.specs.Ready.{PlaceReady}
+use Rattle.entropy.proofs.Laws.{strip-ready, place-ready}
+use Rattle.mark.specs.Mark.{Drawable, CanDraw}
+
+in-float : (z : ℤ) → natAbs z ≤ 2 ^ 53 → T (inFloat binary64 z)
+unfolding inFloat
+in-float (pos n) h = le→leb n (2 ^ 53) h
+in-float (negsuc n) h = le→leb (suc n) (2 ^ 53) h
+
+draws : {y z : ℤ} → YRange y → natAbs z ≤ 2 ^ 53 → Drawable y z
+draws {y} {z} r h = record { least = r .least; most = →≤ (omega (arith, ≤→ (r .most))); value = in-float z h }
+
+-- ---- a fit at its places
+places-shown : (r : Rule) (s : Strip) (l : Logs) (q : ℤ → Point) → YRange (l .y)
+    → (anyPlace s (λ v. r .beyondFit (q v .edge .fit)) (l .y) ≡ false → natAbs (valueAt s q (l .y)) ≤ 2 ^ 53) → CanDraw (heldAt r s l q)
+unfolding heldAt
+places-shown r s l q y-in small = go (anyPlace s (λ v. r .beyondLogs v (l .z)) (l .y)) (anyPlace s (λ v. r .beyondFit (q v .edge .fit)) (l .y)) refl
+  where
+    go : (a b : Bool) → anyPlace s (λ v. r .beyondFit (q v .edge .fit)) (l .y) ≡ b
+        → CanDraw (cond a (judges (r .logsNumber) (r .letter) l Unfitted) (cond b (judges (r .fitNumber) (r .letter) l (edgesAt s q (l .y))) (showsAt r s l q)))
+    go true b e = tt
+    go false true e = tt
+    go false false e = draws y-in (small e)
+
+-- ---- temperature
+kelvin-most : (g : ℤ) → beyondFit g ≡ false → natAbs (kelvinBy chosen g) ≤ 2 ^ 53
+kelvin-most g e =
+    let p = passes g e in
+    subst (λ (n : ℕ). powerOf n ≤ 2 ^ 53) (sym (p .millionths)) (le-of-lt (power-small (natAbs g / 10000) (kelvin-range g p)))
+
+temperature-shown : (p d : ℕ) (l : Logs) → TemperatureReady p d l → CanDraw (temperatureBy chosen p d l)
+unfolding temperatureBy
+temperature-shown p d l h = go (regionOf (l .y) (l .z)) refl
+  where
+    r : YRange (l .y)
+    r = y-range d (l .y) (h .density) (h .taken .y)
+
+    go : (x : Region) → regionOf (l .y) (l .z) ≡ x → CanDraw (temperatureAt chosen x p d l)
+    go Refused e = tt
+    go Perfect e = draws r (le-trans (perfect-small p d (dividable p d l h (perfect-region (l .y) (l .z) e))) (lit≤ tt))
+    go (Fitted b i) e =
+        let q = pointBy chosen temperatureRule (kelvinBy chosen) (l .z) in
+        places-shown temperatureRule (temperatureStrip (l .y)) l q r (kelvin-most (q (l .y) .edge .fit))
+
+-- ---- entropy
+-- a place between the edges is no farther from the lower than the upper is
+apart-some : (a b y : ℤ) → Between a b y → (0 < natAbs (b -ℤ a)) × (natAbs (y -ℤ a) ≤ natAbs (b -ℤ a))
+apart-some a b y h =
+    let e = sub-pos a b (lt-le (h .apart)) in
+    let f = sub-pos a y (h .low) in
+    rw (e, f) (omega (arith, <→ (h .apart)), omega (arith, <→ (h .apart), ≤→ (h .low), ≤→ (h .high)))
+  where
+    lt-le : {p q : ℤ} → p <ℤ q → p ≤ℤ q
+    lt-le k = →≤ (omega (arith, <→ k))
+
+    sub-pos : (p q : ℤ) → p ≤ℤ q → q -ℤ p ≡ pos ((up q + dn p) - (up p + dn q))
+    sub-pos p q k = let vp = v p in let vq = v q in ≡-by (search zs) (omega (arith, ≤→ k))
+
+straight-most : (a b low high y : ℤ) → Between a b y → natAbs low ≤ 2 ^ 43 → natAbs high ≤ 2 ^ 43 → natAbs (straight a b low high y) ≤ 2 ^ 53
+straight-most a b low high y h k l =
+    let w = apart-some a b y h in
+    let d = high -ℤ low in
+    let q : natAbs (shrZ (d *ℤ (y -ℤ a)) (natAbs (b -ℤ a))) ≤ natAbs d =
+    quotient-upto (d *ℤ (y -ℤ a)) (natAbs d) (natAbs (b -ℤ a)) (w .0) (subst (λ (n : ℕ). n ≤ natAbs d * natAbs (b -ℤ a)) (sym (abs-* d (y -ℤ a))) (mul-le-mul-left (natAbs d) (w .1))) in
+    omega (arith, abs-+ low (shrZ (d *ℤ (y -ℤ a)) (natAbs (b -ℤ a))), abs-- high low, q)
+
+entropy-shown : (l : Logs) → YRange (l .y) → PlaceReady (l .y) (l .z) → CanDraw (entropyIn (stripOf (l .y)) l)
+unfolding entropyIn
+entropy-shown l r h = by-strip (stripOf (l .y)) refl
+  where
+    verdict : (t : Bool) (s : ℤ) → natAbs s ≤ 2 ^ 53 → CanDraw (cond t (judges 12 letterS l Unfitted) (shows letterS l Unfitted Unjoined s))
+    verdict true s k = tt
+    verdict false s k = draws r k
+
+    by-strip : (x : Strip) → stripOf (l .y) ≡ x → CanDraw (cond (anyPlace x (λ p. aboveLimit p (l .z)) (l .y)) (judges 12 letterS l Unfitted) (shows letterS l Unfitted Unjoined (joined x (λ p. entropyAt p (l .z)) (l .y))))
+    by-strip Clear e = verdict (aboveLimit (l .y) (l .z)) (entropyAt (l .y) (l .z)) (le-trans (entropy-most (l .y) (l .z) (h .y-most) (h .z-most)) (lit≤ tt))
+    by-strip (strip.Between a b) e =
+        let j = strip-ready (l .y) (l .z) (h .z-most) e in
+        verdict (anyPlace (strip.Between a b) (λ p. aboveLimit p (l .z)) (l .y)) (straight a b (entropyAt a (l .z)) (entropyAt b (l .z)) (l .y))
+        (straight-most a b (entropyAt a (l .z)) (entropyAt b (l .z)) (l .y) (j .between)
+        (entropy-most a (l .z) (j .low .y-most) (j .low .z-most)) (entropy-most b (l .z) (j .high .y-most) (j .high .z-most)))
+
+-- ---- any state
+ranged-shown : (n : ℕ) (a b : Bool) (h : Held) → (T a → T b → CanDraw h) → CanDraw (ranged n a b h)
+ranged-shown n true true h f = f tt tt
+ranged-shown n true false h f = tt
+ranged-shown n false b h f = tt
+
+held-shown : (k : Kind) (p d : ℕ) → CanDraw (heldBy chosen (propertyOf k) p d)
+held-shown Temperature p d =
+    ranged-shown 11 (isPressure p) (isDensity d) _
+    (λ a b. temperature-shown p d (temperatureLogs chosen p d) (record { density = b; taken = temperature-logs chosen lawful p d a b }))
+held-shown Entropy e d =
+    ranged-shown 11 (isEnergy e) (isDensity d) _
+    (λ a b. let t = entropy-logs chosen lawful e d a b in
+    entropy-shown (entropyLogs chosen e d) (y-range d _ b (t .y)) (place-ready e d _ _ a b (t .y) (t .z)))
+held-shown Unknown p d = tt
+
+-- what a state's answer holds can be drawn
+pub answer-shown : (kind first second : ℕ) → CanDraw (answerBy chosen kind first second)
+unfolding answerBy
+answer-shown kind first second = held-shown (kindOf kind) first second

@@ -1,0 +1,26 @@
+-- `flat::low_value` is that edge's value, or 0.
+use mathlib.Core.Path.{sym, ap}
+use Rattle.integer.proofs.Machine.{back}
+use Rattle.flat.specs.Flat.{lowValue}
+use borrow.Author.Needs.{needs}
+use Rattle.flat.proofs.low_value.Statement.{statement}
+use Rattle.flat.proofs.low_value.Tie as tie
+use Rattle.flat.proofs.low_value.Reads as reads
+use Rattle.flat.proofs.low_value.Lts as lts
+
+enum-told : tie.Need-enum-told
+enum-told c = search needs
+
+enum-known-ends : tie.Need-enum-known-ends
+enum-known-ends c = search needs
+
+returns : tie.Need-returns
+returns c = sym (ap lowValue (c .enum-told .given .1))
+
+returns-2 : tie.Need-returns-2
+returns-2 c =
+    let g = c .before .ends .given .0 in
+    rw (back {z = g .0} (search needs)) (sym (ap lowValue (c .before .ends .given .1)))
+
+pub low-value-spec : {M : Type 1} → statement M
+low-value-spec = tie.close (tie.spec enum-told enum-known-ends returns returns-2)

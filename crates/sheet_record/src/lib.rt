@@ -1,0 +1,156 @@
+// A record of the state sheet: its fields by their places, and the reader that goes from one record to the next.
+ghost use mathlib.Core.Path.{_≡_};
+ghost use Prim.Native.Nat.{_+_, _<_, _≤_};
+ghost use lib.ListN.{length, getD, drop};
+ghost use Rattle.octets.specs.Bytes.{numberAt};
+ghost use Rattle.sheet_record.specs.Layout.{layoutIn};
+ghost use Rattle.sheet_record.specs.Front.{frontOf, stepAt, faultOf, behind, entryAt};
+
+// One record: where its name stands, its kind byte and its two values.
+pub struct Record {
+    pub start: usize,
+    pub len: usize,
+    pub kind: u8,
+    pub first: u64,
+    pub second: u64,
+}
+
+// The place of the next record, and how many are left.
+pub struct Cursor {
+    pub at: usize,
+    pub left: usize,
+}
+
+// What a cursor's step finds: a record and the next cursor, a refusal's number, or the end of the sheet.
+pub enum Step {
+    Read(Record, Cursor),
+    Refused(u32),
+    End,
+}
+
+pub fn long(x: u8) -> usize
+    ensures { λ r. ⌜ (r ≡ x) × (r < 256) ⌝ }
+{
+    x as usize
+}
+
+fn wide(x: u8) -> u64
+    ensures { λ r. ⌜ (r ≡ x) × (r < 256) ⌝ }
+{
+    x as u64
+}
+
+// The number in the k bytes from a place on, high byte first.
+pub fn number(s: &[u8], at: usize, k: usize) -> u64
+    requires { ⌜ (k ≤ 8) × (at + k ≤ length (now s)) ⌝ }
+    ensures { λ r. ⌜ r ≡ numberAt k (now (s .entry)) at ⌝ }
+{
+    let mut n: u64 = 0;
+    let mut i = 0;
+    while i < k {
+        n = n * 256 + wide(s[at + i]);
+        i += 1;
+    }
+    n
+}
+
+// The refusal of the record at a place, or 0.
+fn fault_at(s: &[u8], at: usize) -> u32
+    ensures { λ r. ⌜ r ≡ faultOf (frontOf (layoutIn (now (s .entry))) (drop at (now (s .entry)))) ⌝ }
+{
+    if s.len() <= at {
+        return 4;
+    }
+    let n = long(s[at]);
+    if n == 0 {
+        return 5;
+    }
+    if 40 < n {
+        return 5;
+    }
+    let start = at + 1;
+    if s.len() - start < n + 17 {
+        return 4;
+    }
+    if kind::is_known(s[start + n]) {
+        return 0;
+    }
+    6
+}
+
+// The record whose length byte stands at a place.
+pub fn entry_at(s: &[u8], at: usize, n: usize) -> Record
+    requires { ⌜ (n ≡ getD (now s) at 0) × (at + 18 + n ≤ length (now s)) ⌝ }
+    ensures { λ r. ⌜ r ≡ entryAt (now (s .entry)) at ⌝ }
+{
+    let start = at + 1;
+    let k = start + n;
+    let kind = s[k];
+    let first = number(s, k + 1, 8);
+    let second = number(s, k + 9, 8);
+    Record {
+        start: start,
+        len: n,
+        kind: kind,
+        first: first,
+        second: second,
+    }
+}
+
+// The place behind the record whose length byte stands at a place.
+fn past_of(s: &[u8], at: usize, n: usize) -> usize
+    requires { ⌜ (n ≡ getD (now s) at 0) × (faultOf (frontOf (layoutIn (now s)) (drop at (now s))) ≡ 0) ⌝ }
+    ensures { λ r. ⌜ r ≡ behind at (frontOf (layoutIn (now (s .entry))) (drop at (now (s .entry)))) ⌝ }
+{
+    at + 18 + n
+}
+
+// The cursor's step at a place with so many records left.
+fn step_at(s: &[u8], at: usize, left: usize) -> Step
+    ensures { λ r. ⌜ r ≡ stepAt (layoutIn (now (s .entry))) (now (s .entry)) at left ⌝ }
+{
+    if left == 0 {
+        if at == s.len() {
+            return Step::End;
+        }
+        return Step::Refused(4);
+    }
+    let number = fault_at(s, at);
+    if number != 0 {
+        return Step::Refused(number);
+    }
+    let n = long(s[at]);
+    let next = Cursor {
+        at: past_of(s, at, n),
+        left: left - 1,
+    };
+    Step::Read(entry_at(s, at, n), next)
+}
+
+// The sheet reader: the sheet, the place of its next record, and how many are left.
+pub struct Reader<'a> {
+    pub sheet: &'a [u8],
+    pub at: usize,
+    pub left: usize,
+}
+
+// A reader at a place of a sheet.
+pub fn make<'a>(sheet: &'a [u8], at: usize, left: usize) -> Reader<'a>
+    ensures { λ r. ⌜ (r .sheet ≡ sheet .entry) × (r .at ≡ at) × (r .left ≡ left) ⌝ }
+{
+    Reader { sheet, at, left }
+}
+
+// What the reader finds at its place.
+pub fn next<'a>(r: Reader<'a>) -> Step
+    ensures { λ t. ⌜ t ≡ stepAt (layoutIn (now (r .entry .sheet))) (now (r .entry .sheet)) (r .entry .at) (r .entry .left) ⌝ }
+{
+    step_at(r.sheet, r.at, r.left)
+}
+
+// What a reader at a place of a sheet finds.
+pub fn read_from(s: &[u8], at: usize, left: usize) -> Step
+    ensures { λ r. ⌜ r ≡ stepAt (layoutIn (now (s .entry))) (now (s .entry)) at left ⌝ }
+{
+    next(make(s, at, left))
+}

@@ -1,0 +1,4 @@
+pub mod Locate
+pub mod Searching
+pub mod Indexed
+pub mod Pages

@@ -1,3 +1,0 @@
-pub mod Bounds
-pub mod Pieces
-pub mod Regions
