@@ -41,11 +41,13 @@ def nearest(uses, name):
 
 
 def places(groups):
-    """the upper left corner of each crate's box"""
+    """the upper left corner of each crate's box, every row in the middle"""
     spots = {}
+    widest = max(len(names) for _, names in groups)
     for row, (_, names) in enumerate(groups):
+        indent = LEFT + (widest - len(names)) * (WIDTH + GAP) // 2
         for column, name in enumerate(names):
-            spots[name] = (LEFT + column * (WIDTH + GAP), TOP + row * ROW)
+            spots[name] = (indent + column * (WIDTH + GAP), TOP + row * ROW)
     return spots
 
 
@@ -69,7 +71,7 @@ def draw():
     height = TOP + len(groups) * ROW
     out = [
         f'<svg xmlns="http://www.w3.org/2000/svg" width="{width}" height="{height}" viewBox="0 0 {width} {height}">',
-        "<style>text{font:13px sans-serif} .title{font-size:12px;fill:#555} .box{fill:#eef4fb;stroke:#35608f}"
+        "<style>text{font:13px sans-serif} .title{font-size:12px;fill:#555;paint-order:stroke;stroke:white;stroke-width:5px} .box{fill:#eef4fb;stroke:#35608f}"
         " .use{fill:none;stroke:#35608f;stroke-opacity:.45}</style>",
         f'<rect width="{width}" height="{height}" fill="white"/>',
     ]
