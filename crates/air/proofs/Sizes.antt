@@ -9,11 +9,11 @@ use lib.IntN.{ℤ, pos, natAbs, _*ℤ_}
 use lib.Signed.{leZ, shrZ}
 use Rattle.integer.specs.Z.{zs, v}
 use Rattle.integer.specs.Laws.{abs-is, abs-by, abs-+, abs-*}
-use Rattle.fit.specs.Range.{In, AllIn}
+use Rattle.quotient.specs.Range.{In, AllIn}
 use Rattle.fit.specs.Fit.{bicubic}
 use Rattle.fit.proofs.Size.{size, bicubic-size-all}
-use Rattle.fit.proofs.Floors.{quotient-upto}
-use Rattle.fit.proofs.Machine.{all-at}
+use Rattle.quotient.proofs.Floors.{quotient-upto}
+use Rattle.quotient.proofs.Machine.{all-at}
 use Rattle.fit.proofs.Scaling.{entropy-rise-size}
 use Rattle.bands.specs.Bands.{bandOf}
 use Rattle.tgas2_entropy.specs.Entropy.{entropyCoefficients}

@@ -12,9 +12,9 @@ use Rattle.integer.specs.Z.{up, dn, zs, v, ≤→, <→, →≤, ≡-by}
 use Rattle.integer.specs.Laws.{abs-+, abs--, abs-*}
 use Rattle.power.specs.Choice.{powerOf}
 use Rattle.power.proofs.Kelvin.{power-small}
-use Rattle.fit.specs.Range.{Between}
+use Rattle.quotient.specs.Range.{Between}
 use Rattle.fit.specs.Fit.{straight}
-use Rattle.fit.proofs.Floors.{quotient-upto}
+use Rattle.quotient.proofs.Floors.{quotient-upto}
 use Rattle.bands.specs.declared.Region.{Region}
 use Rattle.bands.specs.declared.Region.the-variants.{Refused, Perfect, Fitted}
 use Rattle.bands.specs.declared.Strip.{Strip}

@@ -11,7 +11,7 @@ use Rattle.integer.specs.Laws.{apart}
 use Rattle.integer.specs.Tests.{is-true}
 use Rattle.logarithm.specs.Log.{IsLog}
 use Rattle.logarithm.proofs.Range.{log-least, log-most}
-use Rattle.fit.specs.Range.{Between}
+use Rattle.quotient.specs.Range.{Between}
 use Rattle.fit.specs.Fit.{straight}
 use Rattle.bands.specs.declared.Strip.{Strip}
 use Rattle.bands.specs.declared.Strip.the-variants.{Clear}

@@ -1,7 +1,7 @@
 -- What the steps of the answer may take for granted: where their numbers lie.
 use Prim.Native.Nat.{ℕ, _≤_}
 use lib.IntN.{ℤ, natAbs}
-use Rattle.fit.specs.Range.{Between}
+use Rattle.quotient.specs.Range.{Between}
 
 -- a Y and a Z that an entropy is taken at
 pub record PlaceReady (y z : ℤ) : Type 0 where

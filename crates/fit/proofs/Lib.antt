@@ -1,9 +1,7 @@
 pub mod Near
-pub mod Floors
 pub mod Size
 pub mod Weighted
 pub mod Distance
-pub mod Machine
 pub mod Ranges
 pub mod Scaling
 pub mod Line

@@ -8,9 +8,9 @@ use mir.Syntax.{w64}
 use mir.Val.{SFits}
 use Rattle.integer.specs.Z.{up, dn, Two, zs, v, ≤→, <→, <-by}
 use Rattle.integer.specs.Laws.{abs-is, abs-by, abs-+, abs--, abs-*}
-use Rattle.fit.specs.Range.{In, Splits, Between}
+use Rattle.quotient.specs.Range.{In, Splits, Between}
 use Rattle.fit.specs.Fit.{straight}
-use Rattle.fit.proofs.Floors.{quotient-upto}
+use Rattle.quotient.proofs.Floors.{quotient-upto}
 use Rattle.integer.proofs.Machine.{fits64}
 
 -- how far y is from a, and b

@@ -11,7 +11,8 @@ use Rattle.integer.specs.Z.{up, dn, Rep, zs, v, rep*, rep-pos, rep-negsuc, ≤-
 use Rattle.integer.specs.Laws.{*ℤ-mono}
 use Rattle.integer.specs.Floor.{Down, down, down-lo-of, down-hi-of}
 use Rattle.fraction.specs.Fraction.{Fraction, Within, whole, parts, plus, minus, times, over}
-use Rattle.fit.specs.Fit.{mul, coefficient, gas1, gas2, gas3, gas4, bicubic, exponent}
+use Rattle.quotient.specs.Mul.{mul}
+use Rattle.fit.specs.Fit.{coefficient, gas1, gas2, gas3, gas4, bicubic, exponent}
 use Rattle.fit.specs.Exact.{millionths, exactly, exactGas1, exactGas2, exactGas3, exactGas4, exactBicubic, exactExponent}
 
 -- the two sides, in naturals

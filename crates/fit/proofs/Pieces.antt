@@ -11,10 +11,10 @@ use Rattle.weight.specs.Weight.{units}
 use Rattle.fit.specs.declared.Form.{Form}
 use Rattle.fit.specs.declared.Form.the-variants.{Alone, Joint}
 use Rattle.fit.specs.declared.Coefficients.{Coefficients}
-use Rattle.fit.specs.Range.{In, allIn, AllIn}
+use Rattle.quotient.specs.Range.{In, allIn, AllIn}
 use Rattle.fit.specs.Fit.{Piece, alone, joint, firstOf, secondOf, termsOf, bicubic, exponent}
 use Rattle.fit.specs.Edge.{formed, pieceOf, edgeWith, Small, Workable}
-use Rattle.fit.proofs.Machine.{in-wider}
+use Rattle.quotient.proofs.Machine.{in-wider}
 use Rattle.fit.proofs.Ranges.{bicubic-in}
 
 -- ---- small coefficients

@@ -7,39 +7,12 @@ use lib.Dec.{T, ltb, ltb→lt, lt→ltb, lit<}
 use lib.IntN.{ℤ, pos, natAbs, _+ℤ_, _*ℤ_}
 use lib.Signed.{shrZ}
 use Rattle.integer.specs.Laws.{abs-*}
-use Rattle.fit.specs.Range.{In, AllIn, Divides, Splits}
-use Rattle.fit.specs.Fit.{mul, bicubic}
+use Rattle.quotient.specs.Range.{In, AllIn, Divides, Splits}
+use Rattle.quotient.specs.Mul.{mul}
+use Rattle.fit.specs.Fit.{bicubic}
 use Rattle.fit.proofs.Size.{ceiling, Upto, upto-plus, upto-mul, size, bicubic-size-all}
-use Rattle.fit.proofs.Floors.{quotient-mono, quotient-size}
-use Rattle.fit.proofs.Machine.{all-at}
-
--- a quotient, of a number of at most A
-pub divides : {a : ℤ} (m A : ℕ) → natAbs a ≤ A → 0 < m → A + m < 2 ^ 62 → Divides a (pos m)
-divides m A ha hm h = record { some = record { lt = lt→ltb 0 m hm }; size = omega arith }
-
--- a product that can be split, of factors of at most A and B
-pub splits : {a b : ℤ} (m A B : ℕ) → natAbs a ≤ A → natAbs b ≤ B → 0 < m → A + m < 2 ^ 62 → m * B + m < 2 ^ 62 → (A / m + 1 + m) * B + 1 < 2 ^ 63 → Splits a b (pos m)
-splits {a} {b} m A B ha hb hm h l k =
-    let q : natAbs a / m + 1 + m ≤ A / m + 1 + m = omega (arith, quotient-mono m hm ha) in
-    let r : m * natAbs b + m < 2 ^ 62 = omega (arith, mul-le-mul-left m hb) in
-    let p : (natAbs a / m + 1 + m) * natAbs b + 1 < 2 ^ 63 = omega (arith, mul-le-mul q hb) in
-    record { first = divides m A ha hm h; rest = r; product = p }
-
-pub mul-splits : {a b : ℤ} → In 57 a → In 25 b → Splits a b (pos 1000000)
-mul-splits h k =
-    splits 1000000 (2 ^ 57) (2 ^ 25) (le-of-lt (h .size)) (le-of-lt (k .size)) (lit< tt) (lit< tt) (lit< tt) (lit< tt)
-
--- a product over n can be divided again, by m; its factors are at most A and B
-pub divides-over : (n m A B : ℕ) (a b : ℤ) → natAbs a ≤ A → natAbs b ≤ B → 0 < n → 0 < m → A * B / n + 1 + m < 2 ^ 62 → Divides (shrZ (a *ℤ b) n) (pos m)
-divides-over n m A B a b ha hb hn hm h =
-    let p : natAbs (a *ℤ b) ≤ A * B = rw abs-* (mul-le-mul ha hb) in
-    divides m (A * B / n + 1) (omega (arith, quotient-size (a *ℤ b) n hn, quotient-mono n hn p)) hm h
-
-pub short-splits : {a b : ℤ} → natAbs a ≤ 8796093022207 → In 25 b → Splits a b (pos 64)
-short-splits h k = splits 64 8796093022207 (2 ^ 25) h (le-of-lt (k .size)) (lit< tt) (lit< tt) (lit< tt) (lit< tt)
-
-pub short-divides : (a b : ℤ) → natAbs a ≤ 8796093022207 → In 25 b → Divides (shrZ (a *ℤ b) 64) (pos 15625)
-short-divides a b h k = divides-over 64 15625 8796093022207 (2 ^ 25) a b h (le-of-lt (k .size)) (lit< tt) (lit< tt) (lit< tt)
+use Rattle.quotient.proofs.Floors.{quotient-mono, quotient-size}
+use Rattle.quotient.proofs.Machine.{all-at}
 
 upto : {n : ℕ} {z : ℤ} → In n z → Upto (2 ^ n) z
 upto h = record { most = le-of-lt (h .size) }

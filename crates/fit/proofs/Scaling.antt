@@ -12,10 +12,10 @@ use Rattle.integer.specs.Z.{≤→}
 use Rattle.integer.specs.Laws.{abs-+, abs-*}
 use Rattle.integer.specs.Floor.{Down}
 use Rattle.weight.specs.Weight.{units}
-use Rattle.fit.specs.Range.{In, Divides, Splits}
-use Rattle.fit.proofs.Floors.{is-down, split, twice, quotient-upto, rest-size, product-size}
+use Rattle.quotient.specs.Range.{In, Divides, Splits}
+use Rattle.quotient.proofs.Floors.{is-down, split, twice, quotient-upto, rest-size, product-size}
 use Rattle.integer.proofs.Machine.{fits64}
-use Rattle.fit.proofs.Ranges.{splits, divides-over}
+use Rattle.quotient.proofs.Splits.{splits, divides-over}
 
 weight-size : (w : ℤ) → pos 0 ≤ℤ w → w ≤ℤ pos units → natAbs w ≤ units
 weight-size (pos w) h k = omega (arith, ≤→ k)

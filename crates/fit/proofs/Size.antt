@@ -6,8 +6,9 @@ use native.Mathlib.Omega.{arith}
 use lib.Dec.{lit<}
 use lib.IntN.{ℤ, natAbs, _+ℤ_, _*ℤ_}
 use Rattle.integer.specs.Laws.{abs-+, abs-*}
-use Rattle.fit.specs.Fit.{mul, coefficient, gas1, gas2, gas3, gas4, bicubic}
-use Rattle.fit.proofs.Floors.{quotient-upto}
+use Rattle.quotient.specs.Mul.{mul}
+use Rattle.fit.specs.Fit.{coefficient, gas1, gas2, gas3, gas4, bicubic}
+use Rattle.quotient.proofs.Floors.{quotient-upto}
 
 -- whole units that hold so many millionths
 abbrev pub ceiling : ℕ → ℕ

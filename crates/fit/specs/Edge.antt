@@ -5,7 +5,7 @@ use Rattle.fit.specs.declared.Form.{Form}
 use Rattle.fit.specs.declared.Form.the-variants.{Alone, Joint}
 use Rattle.fit.specs.declared.Coefficients.{Coefficients}
 use Rattle.fit.specs.declared.Edge.{Edge}
-use Rattle.fit.specs.Range.{In, AllIn}
+use Rattle.quotient.specs.Range.{In, AllIn}
 use Rattle.fit.specs.Fit.{Piece, alone, joint, firstOf, secondOf, termsOf, bicubic, exponent, fitted}
 
 -- the piece of a form over its lists; a form that lacks a list leaves it aside

@@ -6,11 +6,8 @@ use Prim.Native.Nat.{ℕ}
 use lib.ListN.{getD}
 use lib.IntN.{ℤ, pos, natAbs, _+ℤ_, _-ℤ_, _*ℤ_}
 use lib.Signed.{shrZ}
+use Rattle.quotient.specs.Mul.{mul}
 use Rattle.weight.specs.Weight.{IsWeight, units}
-
--- document 01, Quantities: mul, with the quotient rounded toward minus infinity
-unfoldable pub mul : ℤ → ℤ → ℤ
-mul a b = shrZ (a *ℤ b) 1000000
 
 -- the i-th coefficient, from 0; one that is not there counts as 0
 abbrev pub coefficient : List ℤ → ℕ → ℤ

@@ -1,4 +1,3 @@
-pub mod Range
 pub mod Fit
 pub mod Edge
 pub mod Exact

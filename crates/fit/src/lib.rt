@@ -1,13 +1,15 @@
-// The fit engine in 64 bits: mul, the bicubic, the exponent, G and the straight line of a join.
-// Every quotient is rounded toward minus infinity; a product that would leave 64 bits is split first.
+// The fit engine in 64 bits: the bicubic, the exponent, G and the straight line of a join.
+use quotient::mul;
+use quotient::mul_div;
 ghost use mathlib.Core.Path.{_≡_};
 ghost use Prim.Native.Nat.{_*_, _^_, _<_};
 ghost use lib.IntN.{pos, natAbs, _+ℤ_, _*ℤ_};
 ghost use lib.Signed.{shrZ, _≤ℤ_, _<ℤ_};
 ghost use Rattle.weight.specs.Weight.{units};
 ghost use Rattle.weight.specs.Choice.{weightOf};
-ghost use Rattle.fit.specs.Range.{In, AllIn, Divides, Splits, Between};
-ghost use Rattle.fit.specs.Fit.{mul, bicubic, exponent, straight};
+ghost use Rattle.quotient.specs.Range.{In, AllIn, Between};
+ghost use Rattle.quotient.specs.Mul.{mul};
+ghost use Rattle.fit.specs.Fit.{bicubic, exponent, straight};
 ghost use Rattle.fit.specs.Edge.{pieceOf, edgeWith, Workable};
 
 // What a piece has: a bicubic alone, or a second one with the exponent that leads to it.
@@ -29,54 +31,6 @@ pub struct Coefficients {
 pub struct Edge {
     pub fit: i64,
     pub weight: i64,
-}
-
-// a / m: moved up by a multiple of m to above 0, where the machine's quotient rounds down.
-fn floor_div(a: i64, m: i64) -> i64
-    requires { ⌜ Divides a m ⌝ }
-    ensures { λ r. ⌜ r ≡ shrZ a (natAbs m) ⌝ }
-{
-    let k = 4611686018427387904 / m + 1;
-    ((a + k * m) as u64 / m as u64) as i64 - k
-}
-
-// a * b / m.
-fn mul_div(a: i64, b: i64, m: i64) -> i64
-    requires { ⌜ Splits a b m ⌝ }
-    ensures { λ r. ⌜ r ≡ shrZ (a *ℤ b) (natAbs m) ⌝ }
-{
-    let h = floor_div(a, m);
-    let l = a - h * m;
-    h * b + floor_div(l * b, m)
-}
-
-// a * b / m for an m that is 2^k, by shifts.
-fn mul_shift(a: i64, b: i64, k: u32, m: i64) -> i64
-    requires { ⌜ (k < 63) × (m ≡ pos (2 ^ k)) × Splits a b m ⌝ }
-    ensures { λ r. ⌜ r ≡ shrZ (a *ℤ b) (natAbs m) ⌝ }
-{
-    let h = a >> k;
-    let l = a - h * m;
-    h * b + ((l * b) >> k)
-}
-
-// a * b / (m * n) for an m that is 2^k: by m with shifts, then by n.
-fn mul_short(a: i64, b: i64, k: u32, m: i64, n: i64) -> i64
-    requires { ⌜ (k < 63) × (m ≡ pos (2 ^ k)) × Splits a b m × Divides (shrZ (a *ℤ b) (natAbs m)) n ⌝ }
-    ensures { λ r. ⌜ r ≡ shrZ (a *ℤ b) (natAbs m * natAbs n) ⌝ }
-{
-    floor_div(mul_shift(a, b, k, m), n)
-}
-
-// a * b / 1,000,000. A factor a below 2^43, as nearly all are, takes one quotient: by 64 with shifts, then by 15,625.
-pub fn mul(a: i64, b: i64) -> i64
-    requires { ⌜ (In 57 a) × (In 25 b) ⌝ }
-    ensures { λ r. ⌜ r ≡ mul a b ⌝ }
-{
-    if a < -8796093022207 || 8796093022207 < a {
-        return mul_div(a, b, 1000000);
-    }
-    mul_short(a, b, 6, 64, 15625)
 }
 
 // a + bY.
@@ -127,9 +81,9 @@ fn scaled_wide(w: i64, b: i64) -> i64
     requires { ⌜ (pos 0 ≤ℤ w) × ((w ≤ℤ pos units) × (In 57 b)) ⌝ }
     ensures { λ r. ⌜ r ≡ shrZ (w *ℤ b) units ⌝ }
 {
-    let h = floor_div(b, 10000000000);
+    let h = quotient::floor_div(b, 10000000000);
     let l = b - h * 10000000000;
-    h * w + floor_div(mul_div(w, l, 100000), 100000)
+    h * w + quotient::floor_div(mul_div(w, l, 100000), 100000)
 }
 
 // W * B / 10^10. A B below 2^38, as nearly all are, takes one quotient: by 1,024 with shifts, then by 9,765,625.
@@ -140,7 +94,7 @@ pub fn scaled(w: i64, b: i64) -> i64
     if b < -274877906943 || 274877906943 < b {
         return scaled_wide(w, b);
     }
-    mul_short(b, w, 10, 1024, 9765625)
+    quotient::mul_short(b, w, 10, 1024, 9765625)
 }
 
 // G where there is a second bicubic, of the two bicubics' values and the weight.

@@ -1,5 +1,5 @@
 -- How large the entropy's coefficients are.
-use Rattle.fit.specs.Range.{AllIn}
+use Rattle.quotient.specs.Range.{AllIn}
 use Rattle.bands.specs.declared.Band.{Band}
 use Rattle.bands.specs.declared.Band.the-variants.{Low, Middle, High}
 use Rattle.tgas2_entropy.specs.Entropy.{entropyCoefficients}

@@ -9,10 +9,10 @@ use lib.Signed.{leZ, shrZ}
 use mir.Syntax.{w64}
 use mir.Val.{SFits, toZ, ofZ}
 use Rattle.integer.specs.Laws.{abs-+}
-use Rattle.fit.specs.Range.{In}
+use Rattle.quotient.specs.Range.{In}
 use Rattle.fit.specs.Fit.{bicubic}
 use Rattle.integer.proofs.Machine.{back, back-ok, fits64}
-use Rattle.fit.proofs.Machine.{in-back, in-ok}
+use Rattle.quotient.proofs.Machine.{in-back, in-ok}
 use Rattle.fit.proofs.Scaling.{entropy-rise-size}
 use Rattle.bands.specs.Bands.{bandOf}
 use Rattle.tgas2_entropy.specs.Entropy.{entropyCoefficients}

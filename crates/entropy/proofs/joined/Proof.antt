@@ -3,7 +3,7 @@ use mathlib.Core.Path.{_≡_, sym, _∙_}
 use borrow.Author.Needs.{needs}
 use Rattle.fit.specs.Fit.{straight}
 use Rattle.integer.proofs.Machine.{back, back-ok}
-use Rattle.fit.proofs.Machine.{in-back, in-ok}
+use Rattle.quotient.proofs.Machine.{in-back, in-ok}
 use Rattle.air.specs.Entropy.{entropyAt, aboveLimit}
 use Rattle.air.proofs.Sizes.{in-25, entropy-in}
 use Rattle.entropy.proofs.Laws.{beyond-low, beyond-high, shown-join}

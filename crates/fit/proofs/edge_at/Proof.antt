@@ -6,11 +6,11 @@ use mir.Val.{toZ, ofZ}
 use Rattle.weight.specs.Weight.{tolerance, IsWeight}
 use Rattle.weight.specs.Choice.{weightOf}
 use Rattle.weight.proofs.Near.{weight-is}
-use Rattle.fit.specs.Range.{In}
+use Rattle.quotient.specs.Range.{In}
 use Rattle.fit.specs.Fit.{bicubic, exponent, joint}
 use Rattle.fit.specs.Edge.{Workable}
 use Rattle.integer.proofs.Machine.{back, back-ok}
-use Rattle.fit.proofs.Machine.{in-back, in-ok}
+use Rattle.quotient.proofs.Machine.{in-back, in-ok}
 use Rattle.fit.proofs.Pieces.{first-small, first-in, as-joint, alone-edge, joint-edge}
 use Rattle.fit.proofs.edge_at.Statement.{statement}
 use Rattle.fit.proofs.edge_at.Tie as tie

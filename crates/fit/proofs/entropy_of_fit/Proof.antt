@@ -6,7 +6,7 @@ use lib.Dec.{lit<, lit≤}
 use lib.IntN.{ℤ, pos, *ℤ-comm}
 use lib.Signed.{shrZ}
 use Rattle.integer.proofs.Machine.{back, back-ok}
-use Rattle.fit.proofs.Ranges.{splits}
+use Rattle.quotient.proofs.Splits.{splits}
 use Rattle.fit.proofs.entropy_of_fit.Statement.{statement}
 use Rattle.fit.proofs.entropy_of_fit.Tie as tie
 

@@ -6,10 +6,11 @@ use lib.IntN.{ℤ, pos, _+ℤ_}
 use lib.ListN.{getD}
 use mir.Syntax.{w64}
 use mir.Val.{SFits, toZ, ofZ}
-use Rattle.fit.specs.Range.{In}
-use Rattle.fit.specs.Fit.{coefficient, mul, exponent}
+use Rattle.quotient.specs.Range.{In}
+use Rattle.quotient.specs.Mul.{mul}
+use Rattle.fit.specs.Fit.{coefficient, exponent}
 use Rattle.integer.proofs.Machine.{back, back-ok}
-use Rattle.fit.proofs.Machine.{in-back, in-ok, in-wider, in-fits, all-at}
+use Rattle.quotient.proofs.Machine.{in-back, in-ok, in-wider, in-fits, all-at}
 use Rattle.fit.proofs.Ranges.{sum-in, term-in, exponent-size}
 use Rattle.fit.proofs.exponent.Statement.{statement}
 use Rattle.fit.proofs.exponent.Tie as tie

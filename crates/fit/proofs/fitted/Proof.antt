@@ -6,7 +6,7 @@ use mir.Syntax.{w64}
 use mir.Val.{SFits, toZ, ofZ}
 use Rattle.weight.specs.Weight.{units}
 use Rattle.integer.proofs.Machine.{back, back-ok}
-use Rattle.fit.proofs.Machine.{in-back, in-fits, in-wider}
+use Rattle.quotient.proofs.Machine.{in-back, in-fits, in-wider}
 use Rattle.fit.proofs.Scaling.{fitted-in}
 use Rattle.fit.proofs.fitted.Statement.{statement}
 use Rattle.fit.proofs.fitted.Tie as tie

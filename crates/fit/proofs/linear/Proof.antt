@@ -3,9 +3,9 @@ use mathlib.Core.Path.{_≡_}
 use lib.IntN.{ℤ, _+ℤ_}
 use mir.Syntax.{w64}
 use mir.Val.{SFits}
-use Rattle.fit.specs.Fit.{mul}
+use Rattle.quotient.specs.Mul.{mul}
 use Rattle.integer.proofs.Machine.{back, back-ok}
-use Rattle.fit.proofs.Machine.{in-back, in-wider, in-fits}
+use Rattle.quotient.proofs.Machine.{in-back, in-wider, in-fits}
 use Rattle.fit.proofs.Ranges.{linear-in}
 use Rattle.fit.proofs.linear.Statement.{statement}
 use Rattle.fit.proofs.linear.Tie as tie

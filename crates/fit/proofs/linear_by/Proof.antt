@@ -2,9 +2,9 @@
 use mathlib.Core.Path.{_≡_}
 use borrow.Author.Needs.{needs}
 use lib.IntN.{ℤ, _+ℤ_}
-use Rattle.fit.specs.Fit.{mul}
+use Rattle.quotient.specs.Mul.{mul}
 use Rattle.integer.proofs.Machine.{back, back-ok}
-use Rattle.fit.proofs.Machine.{in-back, in-ok}
+use Rattle.quotient.proofs.Machine.{in-back, in-ok}
 use Rattle.fit.proofs.Ranges.{linear-in}
 use Rattle.fit.proofs.linear_by.Statement.{statement}
 use Rattle.fit.proofs.linear_by.Tie as tie

@@ -4,10 +4,10 @@ use borrow.Author.Needs.{needs}
 use lib.IntN.{ℤ, _+ℤ_}
 use mir.Syntax.{w64}
 use mir.Val.{SFits, toZ, ofZ}
-use Rattle.fit.specs.Fit.{mul}
-use Rattle.fit.specs.Range.{In}
+use Rattle.quotient.specs.Mul.{mul}
+use Rattle.quotient.specs.Range.{In}
 use Rattle.integer.proofs.Machine.{back, back-ok}
-use Rattle.fit.proofs.Machine.{in-back, in-ok, in-wider, in-fits}
+use Rattle.quotient.proofs.Machine.{in-back, in-ok, in-wider, in-fits}
 use Rattle.fit.proofs.Ranges.{sum-in, once-in}
 use Rattle.fit.proofs.linear_by_square.Statement.{statement}
 use Rattle.fit.proofs.linear_by_square.Tie as tie

@@ -6,7 +6,7 @@ use lib.IntN.{ℤ, natAbs, *ℤ-comm}
 use lib.Signed.{shrZ}
 use Rattle.weight.specs.Weight.{units}
 use Rattle.integer.proofs.Machine.{back, back-ok}
-use Rattle.fit.proofs.Machine.{tested}
+use Rattle.quotient.proofs.Machine.{tested}
 use Rattle.fit.proofs.Scaling.{scaled-splits, scaled-divides}
 use Rattle.fit.proofs.scaled.Statement.{statement}
 use Rattle.fit.proofs.scaled.Tie as tie

@@ -9,7 +9,7 @@ use mir.Syntax.{w64}
 use mir.Val.{toZ, ofZ}
 use Rattle.weight.specs.Weight.{units}
 use Rattle.integer.proofs.Machine.{back, back-ok}
-use Rattle.fit.proofs.Ranges.{divides}
+use Rattle.quotient.proofs.Splits.{divides}
 use Rattle.fit.proofs.Scaling.{Scaling, scaling}
 use Rattle.fit.proofs.scaled_wide.Statement.{statement}
 use Rattle.fit.proofs.scaled_wide.Tie as tie

@@ -6,7 +6,7 @@ use Rattle.weight.specs.Choice.{weightOf}
 use Rattle.fit.specs.Fit.{Piece}
 use Rattle.fit.specs.Edge.{edgeWith}
 use Rattle.integer.proofs.Machine.{back}
-use Rattle.fit.proofs.Machine.{in-back}
+use Rattle.quotient.proofs.Machine.{in-back}
 use Rattle.fit.proofs.Pieces.{workable}
 use Rattle.tgas1_temperature.proofs.Pieces.{piece-small}
 use Rattle.air.proofs.Sizes.{in-23}

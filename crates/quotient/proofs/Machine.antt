@@ -18,8 +18,8 @@ use Rattle.integer.specs.Z.{up, dn, zs, v, ≡→, +-split}
 use Rattle.integer.specs.Laws.{mag-abs, abs-is, abs-*, abs-+}
 use Rattle.integer.specs.Floor.{Down, down-unique, down-by}
 use Rattle.integer.proofs.Machine.{fits64, back-ok}
-use Rattle.fit.specs.Range.{In, allIn, AllIn, Divides, Splits}
-use Rattle.fit.proofs.Floors.{is-down, split, quotient-size, rest-size, product-size}
+use Rattle.quotient.specs.Range.{In, allIn, AllIn, Divides, Splits}
+use Rattle.quotient.proofs.Floors.{is-down, split, quotient-size, rest-size, product-size}
 
 -- a range, of what the machine reads back
 pub in-back : {n : ℕ} {z : ℤ} → SFits w64 z → In n z → In n (toZ w64 (ofZ w64 z))

@@ -1,9 +1,9 @@
--- `fit::floor_div` rounds down on both sides of 0: what it divides is above 0.
+-- `quotient::floor_div` rounds down on both sides of 0: what it divides is above 0.
 use native.Mathlib.Omega.{arith}
 use Rattle.integer.proofs.Machine.{back}
-use Rattle.fit.proofs.Machine.{above-zero, Lifts, lifts}
-use Rattle.fit.proofs.floor_div.Statement.{statement}
-use Rattle.fit.proofs.floor_div.Tie as tie
+use Rattle.quotient.proofs.Machine.{above-zero, Lifts, lifts}
+use Rattle.quotient.proofs.floor_div.Statement.{statement}
+use Rattle.quotient.proofs.floor_div.Tie as tie
 
 st : (s : tie.Start) → Lifts (s .args .a) (s .args .m)
 st s = lifts (s .args .a) (s .args .m) (s .pre)

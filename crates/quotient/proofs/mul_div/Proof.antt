@@ -1,13 +1,13 @@
--- `fit::mul_div` is the quotient of the whole product.
+-- `quotient::mul_div` is the quotient of the whole product.
 use mathlib.Core.Path.{_≡_, _∙_}
 use lib.IntN.{ℤ, natAbs, _-ℤ_, _*ℤ_}
 use lib.Signed.{shrZ}
 use mir.Syntax.{w64}
 use mir.Val.{toZ, ofZ}
 use Rattle.integer.proofs.Machine.{back, back-ok}
-use Rattle.fit.proofs.Machine.{Steps, steps}
-use Rattle.fit.proofs.mul_div.Statement.{statement}
-use Rattle.fit.proofs.mul_div.Tie as tie
+use Rattle.quotient.proofs.Machine.{Steps, steps}
+use Rattle.quotient.proofs.mul_div.Statement.{statement}
+use Rattle.quotient.proofs.mul_div.Tie as tie
 
 rh : (c : tie.After-floor-div) → toZ w64 (ofZ w64 (c .floor-div .result)) ≡ c .floor-div .result
 rh c = back-ok (c .floor-div .result) (c .floor-div .ok)

@@ -1,14 +1,14 @@
--- `fit::mul` is the quotient by a million: at once, or by 64 and then by 15,625.
+-- `quotient::mul` is the quotient by a million: at once, or by 64 and then by 15,625.
 use mathlib.Core.Path.{_≡_, refl, _∙_}
 use Prim.Native.Nat.{_≤_}
 use lib.Dec.{lit<}
 use lib.IntN.{natAbs}
-use Rattle.fit.specs.Fit.{mul}
+use Rattle.quotient.specs.Mul.{mul}
 use Rattle.integer.proofs.Machine.{back, back-ok}
-use Rattle.fit.proofs.Machine.{tested}
-use Rattle.fit.proofs.Ranges.{mul-splits, short-splits, short-divides}
-use Rattle.fit.proofs.mul.Statement.{statement}
-use Rattle.fit.proofs.mul.Tie as tie
+use Rattle.quotient.proofs.Machine.{tested}
+use Rattle.quotient.proofs.Splits.{mul-splits, short-splits, short-divides}
+use Rattle.quotient.proofs.mul.Statement.{statement}
+use Rattle.quotient.proofs.mul.Tie as tie
 
 -- the first factor, where both tests fail
 short : (c : tie.Else2) → natAbs (c .before .before .args .a) ≤ 8796093022207

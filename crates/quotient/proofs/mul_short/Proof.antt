@@ -1,13 +1,13 @@
--- `fit::mul_short` is the quotient of a quotient.
+-- `quotient::mul_short` is the quotient of a quotient.
 use mathlib.Core.Path.{_≡_, _∙_}
 use lib.IntN.{natAbs, _*ℤ_}
 use lib.Signed.{shrZ}
 use mir.Syntax.{w64}
 use mir.Val.{toZ, ofZ}
-use Rattle.fit.proofs.Floors.{twice}
+use Rattle.quotient.proofs.Floors.{twice}
 use Rattle.integer.proofs.Machine.{back, back-ok}
-use Rattle.fit.proofs.mul_short.Statement.{statement}
-use Rattle.fit.proofs.mul_short.Tie as tie
+use Rattle.quotient.proofs.mul_short.Statement.{statement}
+use Rattle.quotient.proofs.mul_short.Tie as tie
 
 mul-shift-requires : tie.Need-mul-shift-requires
 mul-shift-requires c κs =

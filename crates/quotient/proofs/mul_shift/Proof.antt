@@ -1,13 +1,13 @@
--- `fit::mul_shift` is the quotient of the whole product: the steps of `mul_div`, with shifts for its quotients.
+-- `quotient::mul_shift` is the quotient of the whole product: the steps of `mul_div`, with shifts for its quotients.
 use mathlib.Core.Path.{_≡_, refl, sym, ap}
 use Prim.Native.Nat.{_^_}
 use native.Mathlib.Omega.{arith}
 use lib.IntN.{natAbs}
 use lib.Signed.{shrZ}
 use Rattle.integer.proofs.Machine.{back}
-use Rattle.fit.proofs.Machine.{quotient-fits, Steps, steps}
-use Rattle.fit.proofs.mul_shift.Statement.{statement}
-use Rattle.fit.proofs.mul_shift.Tie as tie
+use Rattle.quotient.proofs.Machine.{quotient-fits, Steps, steps}
+use Rattle.quotient.proofs.mul_shift.Statement.{statement}
+use Rattle.quotient.proofs.mul_shift.Tie as tie
 
 -- the divisor
 by : (c : tie.Start) → 2 ^ (c .args .k) ≡ natAbs (c .args .m)

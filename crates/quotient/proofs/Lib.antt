@@ -1,0 +1,3 @@
+pub mod Floors
+pub mod Machine
+pub mod Splits
