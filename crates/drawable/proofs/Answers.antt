@@ -1,5 +1,6 @@
--- Every value that a state's answer shows, and its Y, can be drawn exactly.
+-- Every value that a state's answer shows, and its Y, can be drawn exactly; the mark stands for them.
 use mathlib.Core.Bool.{Bool, true, false, cond}
+use mathlib.Core.Option.{some}
 use mathlib.Core.Path.{_≡_, refl, sym, subst}
 use Prim.Native.Nat.{ℕ, suc, _+_, _-_, _*_, _/_, _^_, _≤_, _<_}
 use native.Mathlib.Nat.{le-trans, le-of-lt, mul-le-mul-left}
@@ -46,7 +47,8 @@ use Rattle.temperature.specs.Ready.{TemperatureReady}
 use Rattle.temperature.proofs.Laws.{passes, kelvin-range, dividable}
 use Rattle.entropy.specs.Ready.{PlaceReady}
 use Rattle.entropy.proofs.Laws.{strip-ready, place-ready}
-use Rattle.mark.specs.Mark.{Drawable, CanDraw}
+use Rattle.mark.specs.Mark.{Drawable, CanDraw, Marked}
+use Rattle.mark.proofs.Placed.{marked}
 
 in-float : (z : ℤ) → natAbs z ≤ 2 ^ 53 → T (inFloat binary64 z)
 unfolding inFloat
@@ -146,3 +148,7 @@ held-shown Unknown p d = tt
 pub answer-shown : (kind first second : ℕ) → CanDraw (answerBy chosen kind first second)
 unfolding answerBy
 answer-shown kind first second = held-shown (kindOf kind) first second
+
+-- document 01, Plot marks: where a state's answer holds logarithms and a value, its mark is a point, and both doubles equal Y and the value exactly
+pub answer-marked : (kind first second : ℕ) (l : Logs) (v : ℤ) → let h = answerBy chosen kind first second in h .logs ≡ some l → h .value ≡ some v → Marked h l v
+answer-marked kind first second l v = marked (answerBy chosen kind first second) (answer-shown kind first second) l v

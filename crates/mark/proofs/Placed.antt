@@ -2,6 +2,7 @@
 use mathlib.Core.Path.{_≡_, refl, sym, ap, _∙_, subst}
 use mathlib.Core.Bool.{Bool, true, false, cond}
 use mathlib.Core.Logic.{⊎-elim}
+use mathlib.Core.Option.{some}
 use Prim.Native.Nat.{ℕ, suc, _+_, _-_, _*_, _^_, _≤_, _<_}
 use native.Mathlib.Nat.{eq-or-lt-of-le}
 use native.Mathlib.Omega.{arith}
@@ -11,7 +12,9 @@ use lib.IntN.{ℤ, pos, negsuc, _+ℤ_, subℕ}
 use lib.Ieee.{Float, binary64, prec, round, add, ofInt, ofBits, inFloat}
 use lib.Ieee.Back.{round-whole}
 use Rattle.integer.specs.Z.{≤→}
-use Rattle.mark.specs.Mark.{pointOf, Drawable, Exactly, Stands}
+use Rattle.air.specs.declared.Logs.{Logs}
+use Rattle.air.specs.Held.{Held}
+use Rattle.mark.specs.Mark.{pointOf, shownValue, markOf, Drawable, CanDraw, Exactly, Stands, Marked}
 use Rattle.mark.proofs.Whole.{add-plus, add-less, add-same}
 
 abbrev seven : ℕ
@@ -74,4 +77,14 @@ stands y v r =
     record {
       across = subst (λ (x : Float). Exactly x (y +ℤ pos seven)) (sym (placed y v r)) (exactly (y +ℤ pos seven) (sum-in y v r));
       up = exactly v (r .value);
+    }
+
+-- what can be drawn and holds logarithms and a value gets such a point
+pub marked : (h : Held) → CanDraw h → (l : Logs) (v : ℤ) → h .logs ≡ some l → h .value ≡ some v → Marked h l v
+unfolding markOf
+marked h d l v e f =
+    record {
+      point = pointOf (l .y) (shownValue (h .letter) v);
+      drawn = rw (e, f);
+      exact = stands (l .y) (shownValue (h .letter) v) (rw (e, f) at d);
     }

@@ -56,3 +56,9 @@ Exactly x (negsuc n) = HasValue x true (suc n) 1
 pub record Stands (p : Point) (y v : ℤ) : Type 0 where
   pub across : Exactly (p .across) (y +ℤ pos 7000000)
   pub up : Exactly (p .up) v
+
+-- the mark of what is held with the logarithms l and the value v: a point that stands for Y and the value
+pub record Marked (h : Held) (l : Logs) (v : ℤ) : Type 0 where
+  pub point : Point
+  pub drawn : markOf h ≡ At point
+  pub exact : Stands point (l .y) (shownValue (h .letter) v)
