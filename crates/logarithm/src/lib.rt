@@ -4,6 +4,7 @@
 ghost use mathlib.Core.Path.{_≡_};
 ghost use Prim.Native.Nat.{_+_, _*_, _≤_, _<_};
 ghost use lib.ListN.{getD};
+ghost use Rattle.logarithm.specs.Log.{IsLog};
 ghost use Rattle.logarithm.specs.Choice.{factors, factorLogs, points, rises, chordOf, mantissaOf, lgOf, logOf};
 
 // A factor in the upper half, its logarithm in the lower. A table is a `match`, which compiles to constants in memory; two tables with
@@ -122,6 +123,7 @@ fn lg(n: u64) -> u64
 pub fn log10_ratio(n: u64, d: u64) -> i64
     requires { ⌜ (0 < n) × (0 < d) ⌝ }
     ensures { λ r. ⌜ r ≡ logOf n d ⌝ }
+    ensures { λ r. ⌜ IsLog n d r ⌝ }
 {
     let g = (lg(n) + 200000005000 - lg(d)) / 10000;
     (g as i64) - 20000000

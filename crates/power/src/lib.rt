@@ -3,7 +3,9 @@
 // The result is at most 0.0096 millionths below the power and at most 0.0066 above it (`near-power` of proofs/Kelvin).
 ghost use mathlib.Core.Path.{_≡_};
 ghost use Prim.Native.Nat.{_≤_, _<_};
+ghost use lib.IntN.{pos};
 ghost use lib.ListN.{getD};
+ghost use Rattle.power.specs.Power.{IsPower};
 ghost use Rattle.power.specs.Choice.{coarse, middle, fine, strideOf, stepOf, powerOf};
 
 // The power at a multiple of 65,536 millionths, in microkelvin.
@@ -147,6 +149,7 @@ fn step(g: u64) -> u64
 pub fn kelvin_power(g: u64) -> u64
     requires { ⌜ g ≤ 1960000 ⌝ }
     ensures { λ t. ⌜ t ≡ powerOf g ⌝ }
+    ensures { λ t. ⌜ IsPower 273150000 (pos g) t ⌝ }
 {
     let t = step(g);
     t + t * (g % 64) / 434262

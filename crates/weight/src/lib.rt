@@ -4,6 +4,7 @@
 ghost use mathlib.Core.Path.{_≡_};
 ghost use Prim.Native.Nat.{_+_, _*_, _<_, _≤_};
 ghost use lib.ListN.{getD};
+ghost use Rattle.weight.specs.Weight.{tolerance, IsWeight};
 ghost use Rattle.weight.specs.Choice.{scale, wholes, sixteenths, inverse, exponential, share, weightAbove, weightOf};
 
 // scale / e^n, rounded up.
@@ -111,6 +112,7 @@ fn above(u: u64) -> u64
 // The weight at q units of 10^-10.
 pub fn weight(q: i64) -> i64
     ensures { λ w. ⌜ w ≡ weightOf q ⌝ }
+    ensures { λ w. ⌜ IsWeight tolerance q w ⌝ }
 {
     if q < 0 {
         let m = (-1 - q) as u64;

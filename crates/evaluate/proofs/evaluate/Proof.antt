@@ -1,18 +1,26 @@
--- `evaluate::evaluate` follows the kind.
-use mathlib.Core.Path.{_≡_, sym, ap, _∙_}
+-- `evaluate::evaluate` follows the kind; what the choices make is allowed.
+use mathlib.Core.Path.{_≡_, refl, sym, ap, _∙_}
 use borrow.Author.Needs.{needs}
 use Rattle.kind.specs.declared.Kind.{Kind}
+use Rattle.air.specs.declared.Answer.{Answer}
+use Rattle.air.specs.Held.{held}
 use Rattle.air.specs.Choices.{chosen}
-use Rattle.air.specs.State.{propertyOf, heldBy, answerBy}
+use Rattle.air.specs.State.{propertyOf, heldBy, answerBy, IsAnswer}
+use Rattle.air.proofs.Allowed.{allowed, lawful}
 use Rattle.evaluate.proofs.evaluate.Statement.{statement}
 use Rattle.evaluate.proofs.evaluate.Tie as tie
 use Rattle.evaluate.proofs.evaluate.Reads as reads
 use Rattle.evaluate.proofs.evaluate.Lts as lts
 
-by-kind : (c : tie.After-kind-of) (k : Kind) → c .kind-of .result ≡ k → let s = c .before in
-    heldBy chosen (propertyOf k) (s .args .first) (s .args .second) ≡ answerBy chosen (s .args .kind) (s .args .first) (s .args .second)
+-- an answer that holds what its kind makes is the choices' answer, and allowed
+by-kind : (c : tie.After-kind-of) (k : Kind) (a : Answer) → c .kind-of .result ≡ k → let s = c .before in
+    held a ≡ heldBy chosen (propertyOf k) (s .args .first) (s .args .second)
+    → (held a ≡ answerBy chosen (s .args .kind) (s .args .first) (s .args .second)) × IsAnswer (s .args .kind) (s .args .first) (s .args .second) a
 unfolding answerBy
-by-kind c k e = ap (λ (x : Kind). heldBy chosen (propertyOf x) (c .before .args .first) (c .before .args .second)) (sym e ∙ c .kind-of .ensures)
+by-kind c k a e h =
+    let s = c .before in
+    let made = h ∙ ap (λ (x : Kind). heldBy chosen (propertyOf x) (s .args .first) (s .args .second)) (sym e ∙ c .kind-of .ensures) in
+    (made, allowed chosen lawful (s .args .kind) (s .args .first) (s .args .second) a made)
 
 kind-of-requires : tie.Need-kind-of-requires
 kind-of-requires c κs = search needs
@@ -33,13 +41,13 @@ enum-told-3 : tie.Need-enum-told-3
 enum-told-3 c = search needs
 
 returns : tie.Need-returns
-returns c = c .temperature .ensures ∙ by-kind (c .before .before .before) _ (c .before .enum-told .given .1)
+returns c = by-kind (c .before .before .before) _ _ (c .before .enum-told .given .1) (c .temperature .ensures)
 
 returns-2 : tie.Need-returns-2
-returns-2 c = c .entropy .ensures ∙ by-kind (c .before .before .before) _ (c .before .enum-told2 .given .1)
+returns-2 c = by-kind (c .before .before .before) _ _ (c .before .enum-told2 .given .1) (c .entropy .ensures)
 
 returns-3 : tie.Need-returns-3
-returns-3 c = by-kind (c .before .before) _ (c .enum-told3 .given .1)
+returns-3 c = by-kind (c .before .before) _ _ (c .enum-told3 .given .1) refl
 
 pub evaluate-spec : {M : Type 1} → statement M
 evaluate-spec =

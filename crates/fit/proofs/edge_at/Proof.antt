@@ -3,9 +3,7 @@ use mathlib.Core.Path.{_≡_, _∙_, ap}
 use borrow.Author.Needs.{needs}
 use mir.Syntax.{w64}
 use mir.Val.{toZ, ofZ}
-use Rattle.weight.specs.Weight.{tolerance, IsWeight}
 use Rattle.weight.specs.Choice.{weightOf}
-use Rattle.weight.proofs.Near.{weight-is}
 use Rattle.quotient.specs.Range.{In}
 use Rattle.fit.specs.Fit.{bicubic, exponent, joint}
 use Rattle.fit.specs.Edge.{Workable}
@@ -33,7 +31,7 @@ weight-chosen : (c : tie.After-weight) → let s = c .before .before .before .be
 weight-chosen c =
     let s = c .before .before .before .before .before .before .before in
     let e = c .before in
-    (rw (back-ok (e .exponent .result) (e .exponent .ok)) at (c .weight .ensures))
+    (rw (back-ok (e .exponent .result) (e .exponent .ok)) at (c .weight .ensures .0))
     ∙ ap weightOf (rw (back (s .fits .y), back (s .fits .z)) at (e .exponent .ensures))
 
 second : (c : tie.After-bicubic2) → let s = c .before .before .before .before .before .before .before .before .before in
@@ -72,11 +70,10 @@ fitted-requires : tie.Need-fitted-requires
 fitted-requires c κs =
     let a = c .before .before .before .before .before .before .before in
     let s = a .before .before in
-    let w = c .before .before in
-    let h : IsWeight tolerance (exponent (s .args .c .terms) (s .args .y) (s .args .z)) (toZ w64 (ofZ w64 (w .weight .result))) =
-    rw (back-ok (w .weight .result) (w .weight .ok), weight-chosen w) (weight-is _) in (
+    let w = c .before .before .weight in
+    rw (back-ok (w .result) (w .ok)) (
       in-ok (first a) (a .bicubic .ok) (first-in (s .args .c) (s .args .y) (s .args .z) (s .pre)),
-      (h .least, (h .most, in-ok (second c) (c .bicubic2 .ok) (takes (c .before .before .before .before .before) .second))),
+      (w .ensures .1 .least, (w .ensures .1 .most, in-ok (second c) (c .bicubic2 .ok) (takes (c .before .before .before .before .before) .second))),
     )
 
 returns : tie.Need-returns

@@ -1,4 +1,5 @@
 -- `logarithm::log10_ratio` meets its contract. Assumes nothing.
+use mathlib.Core.Path.{refl}
 use Prim.Native.Nat.{ℕ, _+_, _-_, _/_, _≤_}
 use native.Mathlib.Omega.{arith}
 use lib.IntN.{pos, _-ℤ_}
@@ -9,7 +10,7 @@ use mir.ValLaws.{toZ-pos}
 use borrow.Author.Needs.{needs}
 use Rattle.integer.specs.Laws.{mag-abs}
 use Rattle.logarithm.specs.Choice.{logOf}
-use Rattle.logarithm.proofs.Ratios.{lowered-small}
+use Rattle.logarithm.proofs.Ratios.{lowered-small, log-is}
 use Rattle.logarithm.proofs.log10_ratio.Statement.{statement}
 use Rattle.logarithm.proofs.log10_ratio.Tie as tie
 
@@ -39,7 +40,9 @@ sub-result c =
 returns : tie.Need-returns
 unfolding logOf
 returns c =
+    let s = c .before .before in
     rw (toZ-ofZ (sub-result c), toZ-pos w64 ((c .before .lg .result + 200000005000 - c .lg2 .result) / 10000) (omega (arith, c .before .lg .ensures .1)), c .before .lg .ensures .0, c .lg2 .ensures .0)
+    (refl, log-is (s .args .n) (s .args .d) (s .pre .0) (s .fits .n .fits) (s .pre .1) (s .fits .d .fits))
 
 pub log10-ratio-spec : {M : Type 1} → statement M
 log10-ratio-spec =

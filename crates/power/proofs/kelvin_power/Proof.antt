@@ -5,6 +5,7 @@ use native.Mathlib.Nat.{mul-le-mul}
 use native.Mathlib.Omega.{arith}
 use borrow.Author.Needs.{needs}
 use Rattle.power.specs.Choice.{powerOf}
+use Rattle.power.proofs.Kelvin.{power-is}
 use Rattle.power.proofs.kelvin_power.Statement.{statement}
 use Rattle.power.proofs.kelvin_power.Tie as tie
 
@@ -24,7 +25,7 @@ add-result c = omega (arith, product-most c)
 
 returns : tie.Need-returns
 unfolding powerOf
-returns c = rw (c .step .ensures .0) refl
+returns c = rw (c .step .ensures .0) (refl, power-is (c .before .args .g) (c .before .pre))
 
 pub kelvin-power-spec : {M : Type 1} → statement M
 kelvin-power-spec = tie.close (tie.spec step-requires mul-result add-result returns)

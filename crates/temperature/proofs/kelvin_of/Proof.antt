@@ -25,7 +25,7 @@ kelvin-power-requires : tie.Need-kelvin-power-requires
 kelvin-power-requires c κs = rw (back (c .fits .fit)) (kelvin-range (c .args .fit) (fit-passes c))
 
 kelvin : (c : tie.After-kelvin-power) → c .kelvin-power .result ≡ powerOf (natAbs (c .before .args .fit) / 10000)
-kelvin c = rw (back (c .before .fits .fit)) at (c .kelvin-power .ensures)
+kelvin c = rw (back (c .before .fits .fit)) at (c .kelvin-power .ensures .0)
 
 small : (c : tie.After-kelvin-power) → c .kelvin-power .result < 2 ^ 63
 small c =

@@ -35,10 +35,10 @@ density c = sym (c .before .within2 .ensures) ∙ not-false _ (c .if2 .left)
 
 -- ---- the logarithms
 x-is : (c : tie.After-log10-ratio) → toZ w64 (ofZ w64 (c .log10-ratio .result)) ≡ logOf (c .before .before .before .before .before .args .p) P0
-x-is c = back-ok (c .log10-ratio .result) (c .log10-ratio .ok) ∙ c .log10-ratio .ensures
+x-is c = back-ok (c .log10-ratio .result) (c .log10-ratio .ok) ∙ c .log10-ratio .ensures .0
 
 y-is : (c : tie.After-log10-ratio2) → toZ w64 (ofZ w64 (c .log10-ratio2 .result)) ≡ logOf (c .before .before .before .before .before .before .args .d) D0
-y-is c = back-ok (c .log10-ratio2 .result) (c .log10-ratio2 .ok) ∙ c .log10-ratio2 .ensures
+y-is c = back-ok (c .log10-ratio2 .result) (c .log10-ratio2 .ok) ∙ c .log10-ratio2 .ensures .0
 
 z-fits : (c : tie.After-log10-ratio2) → let s = c .before .before .before .before .before .before in SFits w64 (logOf (s .args .p) P0 -ℤ logOf (s .args .d) D0)
 z-fits c =

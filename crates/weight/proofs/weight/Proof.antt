@@ -3,15 +3,18 @@ use mathlib.Core.Path.{_≡_, _∙_, ap, sym}
 use Prim.Native.Nat.{_+_, _-_, _≤_}
 use native.Mathlib.Omega.{arith}
 use borrow.Author.Needs.{needs}
-use lib.IntN.{pos, negsuc, natAbs, _-ℤ_}
+use lib.IntN.{ℤ, pos, negsuc, natAbs, _-ℤ_}
 use mir.Syntax.{w64}
 use mir.Facts.{toZ-ofZ, toZ-pos}
-use Rattle.weight.specs.Weight.{units}
-use Rattle.weight.specs.Choice.{weightAbove}
+use Rattle.weight.specs.Weight.{units, tolerance, IsWeight}
+use Rattle.weight.specs.Choice.{weightAbove, weightOf}
 use Rattle.weight.proofs.Machine.{again, Below, below, Above, above}
-use Rattle.weight.proofs.Near.{above-most}
+use Rattle.weight.proofs.Near.{above-most, weight-is}
 use Rattle.weight.proofs.weight.Statement.{statement}
 use Rattle.weight.proofs.weight.Tie as tie
+
+chosen : {q w : ℤ} → w ≡ weightOf q → (w ≡ weightOf q) × IsWeight tolerance q w
+chosen {q} e = (e, rw e (weight-is q))
 
 neg : (c : tie.Then1) → Below (c .before .args .q)
 neg c = below (c .before .args .q) (c .before .fits .q) (c .if1 .taken)
@@ -55,16 +58,18 @@ cast-result-2 c =
 
 returns : tie.Need-returns
 returns c =
-    toZ-pos w64 (omega arith)
+    chosen
+    (toZ-pos w64 (omega arith)
     ∙ ap (λ x. pos (units - x)) (c .above .ensures ∙ ap (λ z. weightAbove (natAbs z + 1)) (down (c .before)) ∙ ap (λ k. weightAbove (k + 1)) (neg (c .before) .size .is))
-    ∙ sym (neg (c .before) .is)
+    ∙ sym (neg (c .before) .is))
 
 returns-2 : tie.Need-returns-2
 returns-2 c =
     let h : c .above2 .result ≤ units = rw (c .above2 .ensures) (above-most _) in
-    toZ-pos w64 (omega arith)
+    chosen
+    (toZ-pos w64 (omega arith)
     ∙ ap pos (c .above2 .ensures ∙ ap (λ z. weightAbove (natAbs z)) (toZ-ofZ (c .before .before .fits .q)) ∙ ap weightAbove (non (c .before) .size .is))
-    ∙ sym (non (c .before) .is)
+    ∙ sym (non (c .before) .is))
 
 pub weight-spec : {M : Type 1} → statement M
 weight-spec =
