@@ -16,7 +16,7 @@ flatten-requires : tie.Need-flatten-requires
 flatten-requires c κs = search needs
 
 returns : tie.Need-returns
-returns c = c .flatten .ensures ∙ ap flat (c .before .evaluate .ensures)
+returns c = c .flatten .ensures ∙ ap flat (c .before .evaluate .ensures .0)
 
 pub eas-evaluate-spec : {M : Type 1} → statement M
 eas-evaluate-spec = tie.close (tie.spec evaluate-requires flatten-requires returns)

@@ -22,7 +22,7 @@ returns : tie.Need-returns
 returns c = sym (ap (answerAt chosen) (c .before .found .given .1))
 
 returns-2 : tie.Need-returns-2
-returns-2 c = c .evaluate .ensures ∙ sym (ap (answerAt chosen) (c .before .before .found2 .given .1))
+returns-2 c = c .evaluate .ensures .0 ∙ sym (ap (answerAt chosen) (c .before .before .found2 .given .1))
 
 pub answer-at-spec : {M : Type 1} → statement M
 answer-at-spec =
