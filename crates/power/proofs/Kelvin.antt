@@ -6,7 +6,9 @@ use native.Mathlib.Omega.{arith}
 use lib.Dec.{lit<, lit≤}
 use lib.IntN.{pos, _+ℤ_, _-ℤ_}
 use lib.ListN.{getD}
-use Rattle.integer.specs.Z.{is+, is-neg, is-pos}
+use Rattle.integer.specs.Z.{is+, is-neg, is-pos, zs, ≤-by}
+use Rattle.fraction.specs.Tens.{Above, Below}
+use Rattle.fraction.proofs.Order.{above-less, below-more}
 use Rattle.logarithm.proofs.Bounds.{Lo}
 use Rattle.logarithm.proofs.Exponents.{above-by, below-by}
 use Rattle.power.specs.Power.{IsPower}
@@ -88,13 +90,16 @@ power-small g h =
     let r : g % 64 ≤ 64 = omega arith in
     omega (arith, step-is g h .most-is, mul-le-mul (step-is g h .most-is) r)
 
+-- a power, from the exponents that it lies between
+between : (b g t : ℕ) → Above (pos g -ℤ pos 1) 1000000 t b → Below (pos g +ℤ pos 2) 1000000 t b → IsPower b (pos g) t
+between b g t a l = record { above = above-less 1000000 t b (≤-by (search zs) (omega arith)) a; below = below-more 1000000 t b (≤-by (search zs) (omega arith)) l }
+
 pub power-is : (g : ℕ) → g ≤ 1960000 → IsPower 273150000 (pos g) (powerOf g)
 power-is g h =
     let n = near-end 1000000 10000 g 96 (3 + g % 64) (powerOf g) 273150000 (power-some g h) (lit< tt) (lit< tt) (omega arith) (near-power g h) in
-    record {
-      above = above-by (pos g -ℤ pos 1) 1000000 (powerOf g) 273150000 g 1 (record { is = omega (arith, is+ (is-pos g) (is-neg (is-pos 1)) .is) }) (n .0);
-      below = below-by (pos g +ℤ pos 2) 1000000 (powerOf g) 273150000 (g + 2) 0 (is-pos (g + 2)) (over (n .1));
-    }
+    between 273150000 g (powerOf g)
+    (above-by (pos g -ℤ pos 1) 1000000 (powerOf g) 273150000 g 1 (record { is = omega (arith, is+ (is-pos g) (is-neg (is-pos 1)) .is) }) (n .0))
+    (below-by (pos g +ℤ pos 2) 1000000 (powerOf g) 273150000 (g + 2) 0 (is-pos (g + 2)) (over (n .1)))
   where
     over : {x y : ℕ} → x < y → 10 ^ 0 * x < y
     over l = omega arith

@@ -1,3 +1,4 @@
 pub mod Near
 pub mod Tables
 pub mod Kelvin
+pub mod Pins

@@ -10,3 +10,4 @@ pub mod Near
 pub mod Digits
 pub mod Sizes
 pub mod Machine
+pub mod Pins

@@ -177,7 +177,7 @@ near-above u = by (ltb u 240000000000) refl
     by false e = near-zero u (ltb-false u 240000000000 e)
 
 -- ---- in whole numbers, for both signs
-within : (k w t d : ℕ) → 0 < d → w * d ≤ units * t + k * d → units * t ≤ (w + k) * d → Within k (pos w) (times (whole (pos units)) (parts d (pos t)))
+pub within : (k w t d : ℕ) → 0 < d → w * d ≤ units * t + k * d → units * t ≤ (w + k) * d → Within k (pos w) (times (whole (pos units)) (parts d (pos t)))
 within k w t d p h l =
     record { proper = record { some = omega arith }; low = ≤-by (search zs) (omega arith); high = ≤-by (search zs) (omega arith) }
 
