@@ -49,10 +49,10 @@ module _ (c : Choices) (law : Lawful c) where
       law .log n d (omega arith) (omega arith) e f
 
   pub density-log : (d : ℕ) → T (isDensity d) → IsLog d D0 (c .log d D0)
-  density-log d t = log-in 12920 129200000000000 D0 d t (lit< tt) (lit< tt) (lit< tt) (lit< tt)
+  density-log d t = log-in _ _ D0 d t (lit< tt) (lit< tt) (lit< tt) (lit< tt)
 
   pub temperature-logs : (p d : ℕ) → T (isPressure p) → T (isDensity d) → TemperatureLogs p d (temperatureLogs c p d)
-  temperature-logs p d a b = record { y = density-log d b; x = log-in 1 (10 ^ 17) P0 p a (lit< tt) (lit< tt) (lit< tt) (lit< tt); z = refl; triple = refl }
+  temperature-logs p d a b = record { y = density-log d b; x = log-in _ _ P0 p a (lit< tt) (lit< tt) (lit< tt) (lit< tt); z = refl; triple = refl }
 
   is-temperature : (p d : ℕ) → T (isPressure p) → T (isDensity d) → IsTemperature p d (temperatureBy c p d (temperatureLogs c p d))
   unfolding temperatureBy
@@ -61,7 +61,7 @@ module _ (c : Choices) (law : Lawful c) where
       record { logs = l; taken = temperature-logs p d a b; is = in-region (regionOf (l .y) (l .z)) p d l }
 
   pub entropy-logs : (e d : ℕ) → T (isEnergy e) → T (isDensity d) → EntropyLogs e d (entropyLogs c e d)
-  entropy-logs e d a b = record { y = density-log d b; z = log-in 7840840 (10 ^ 12) E0 e a (lit< tt) (lit< tt) (lit< tt) (lit< tt); x = refl; triple = refl }
+  entropy-logs e d a b = record { y = density-log d b; z = log-in _ _ E0 e a (lit< tt) (lit< tt) (lit< tt) (lit< tt); x = refl; triple = refl }
 
   is-entropy : (e d : ℕ) → T (isEnergy e) → T (isDensity d) → IsEntropy e d (entropyFrom (entropyLogs c e d))
   is-entropy e d a b = record { logs = entropyLogs c e d; taken = entropy-logs e d a b; is = refl }

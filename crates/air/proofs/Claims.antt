@@ -9,6 +9,7 @@ use lib.IntN.{ℤ, pos, negsuc, negℤ, natAbs}
 use lib.Signed.{_≤ℤ_, ltZ, leZ-yes, ltZ-no, clashℤ}
 use Rattle.logarithm.specs.Log.{IsLog}
 use Rattle.integer.specs.Z.{up, dn}
+use Rattle.fraction.proofs.Order.{within-more}
 use Rattle.logarithm.proofs.Range.{log-least, log-most}
 use Rattle.bands.specs.Bands.{bandOf}
 use Rattle.bands.specs.Region.{temperatureIndex}
@@ -147,7 +148,7 @@ entropy-claim e d h ok it = go (beyondEntropy l) refl (it .is)
           carries = refl;
           shows = refl;
           taken = it .taken;
-          near = entropy-near (l .y) (l .z) (record { density = y-range d (l .y) (ok .no-11) (it .taken .y); least = z-least e (l .z) (ok .no-10) (it .taken .z); most = is-false e₁ });
+          near = within-more (lit≤ tt) (entropy-near (l .y) (l .z) (record { density = y-range d (l .y) (ok .no-11) (it .taken .y); least = z-least e (l .z) (ok .no-10) (it .taken .z); most = is-false e₁ }));
         })
 
 -- ---- any kind: what a new one proves

@@ -8,3 +8,4 @@ pub mod Claims
 pub mod Allowed
 pub mod ProofTable
 pub mod Sizes
+pub mod Pins

@@ -9,11 +9,10 @@ use native.Mathlib.Nat.{div-mul-le-self, lt-div-mul-add, div-add-mod', mod-lt}
 use native.Mathlib.Omega.{arith}
 use borrow.Author.Tests.{ltb-true, ltb-false}
 use lib.Dec.{ltb, lit<, lit≤}
-use lib.IntN.{ℤ, pos, negsuc, _+ℤ_, _-ℤ_}
-use lib.Signed.{_≤ℤ_}
-use Rattle.integer.specs.Z.{zs, rep-var, ≤-by}
-use Rattle.integer.specs.Laws.{≤ℤ-trans, *ℤ-mono}
-use Rattle.fraction.specs.Fraction.{Fraction, Within, parts, times, whole}
+use lib.IntN.{ℤ, pos, negsuc}
+use Rattle.integer.specs.Z.{zs, ≤-by}
+use Rattle.fraction.specs.Fraction.{Within, parts, times, whole}
+use Rattle.fraction.proofs.Order.{within-more}
 use Rattle.weight.specs.Weight.{num, den, units, tolerance, ideal, IsWeight}
 use Rattle.weight.specs.Choice.{scale, inverse, exponential, share, orZero, weightAbove, weightOf}
 use Rattle.weight.proofs.Series.{den-pos, den-le-num, num-mono}
@@ -202,14 +201,6 @@ weight-near (negsuc m) =
           (omega (arith, h .low n k, ap (λ x. x * c) e))
           (omega (arith, h .high n k, ap (λ x. x * c) e));
     }
-
--- what is within j is within more
-within-more : {j k : ℕ} {w : ℤ} {f : Fraction} → j ≤ k → Within j w f → Within k w f
-within-more {j} {k} {w} {f} l h =
-    let vw = rep-var w in
-    let less : (w -ℤ pos k) ≤ℤ (w -ℤ pos j) = ≤-by (search zs) (omega arith) in
-    let more : (w +ℤ pos j) ≤ℤ (w +ℤ pos k) = ≤-by (search zs) (omega arith) in
-    record { proper = h .proper; low = ≤ℤ-trans (*ℤ-mono (f .bottom) less) (h .low); high = ≤ℤ-trans (h .high) (*ℤ-mono (f .bottom) more) }
 
 pub weight-is : (q : ℤ) → IsWeight tolerance q (weightOf q)
 weight-is q =
