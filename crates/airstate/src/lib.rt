@@ -1,22 +1,21 @@
 // The C interface: thin entries over the proved crates. No entry keeps state, and none asks anything of its caller.
+use air::Answer;
 use flat::CAnswer;
 use flat::CMark;
 use flat::CRecord;
 use flat::CText;
 use octets::Outcome;
 ghost use mathlib.Core.Path.{_≡_};
-ghost use Prim.Native.Nat.{_≤_};
-ghost use lib.ListN.{length, take};
-ghost use lib.Seq.{sets};
+ghost use lib.ListN.{length};
 ghost use Rattle.octets.specs.Room.{written, outcomeOf};
-ghost use Rattle.name.specs.Name.{nameOf, spellingOf};
+ghost use Rattle.name.specs.Name.{spellingOf};
 ghost use Rattle.sheet.specs.Sheet.{sheetOf, numberOf};
 ghost use Rattle.air.specs.Choices.{chosen};
 ghost use Rattle.air.specs.State.{answerBy};
 ghost use Rattle.mark.specs.Mark.{markOf};
 ghost use Rattle.calculator.specs.Search.{locate, searchBy};
 ghost use Rattle.flat.specs.Flat.{flat, flatFound, flatText, flatMark};
-ghost use Rattle.airstate.specs.Texts.{lineIn, overlaid};
+ghost use Rattle.airstate.specs.Texts.{lineIn, readIn};
 
 // The sheet's number: 0, 1 to 6, 16.
 #[no_mangle]
@@ -42,12 +41,15 @@ pub extern "C" fn eas_search(sheet: &[u8], spelled: &[u8]) -> CAnswer
     flat::flatten(calculator::search(sheet, spelled))
 }
 
-// The answer for a state handed in.
+// The answer for a state handed in: any number as its kind, any two values.
 #[no_mangle]
-pub extern "C" fn eas_evaluate(kind: u8, first: u64, second: u64) -> CAnswer
+pub extern "C" fn eas_evaluate(kind: u32, first: u64, second: u64) -> CAnswer
     ensures { λ r. ⌜ r ≡ flat (answerBy chosen kind first second) ⌝ }
 {
-    flat::flatten(evaluate::evaluate(kind, first, second))
+    if 255 < kind {
+        return flat::flatten(Answer::Refused(6));
+    }
+    flat::flatten(evaluate::evaluate(kind as u8, first, second))
 }
 
 // The plot mark of a spelled name.
@@ -76,35 +78,17 @@ pub extern "C" fn eas_spell(name: &[u8], out: &mut [u8]) -> CText
     flat::flatten_text(name::spell(name, out))
 }
 
-// Copies the first n of 40 bytes.
-fn copy_name(bytes: [u8; 40], n: usize, name: &mut [u8; 40])
-    requires { ⌜ (n ≤ 40) × (n ≤ length bytes) ⌝ }
-    ensures { λ _. ⌜ now (name .exit) ≡ sets (now (name .entry)) 0 (take n bytes) ⌝ }
-{
-    let mut i = 0;
-    while i < n {
-        name[i] = bytes[i];
-        i += 1;
-    }
-}
-
-// Reads a spelling into the first of 40 lent bytes, which hold any name.
+// Reads a spelling into lent room.
 #[no_mangle]
-pub extern "C" fn eas_read(spelled: &[u8], name: &mut [u8; 40]) -> CText
-    ensures { λ r. ⌜ r ≡ flatText (outcomeOf (nameOf (now (spelled .entry)))) ⌝ }
-    ensures { λ _. ⌜ now (name .exit) ≡ overlaid (nameOf (now (spelled .entry))) (now (name .entry)) ⌝ }
+pub extern "C" fn eas_read(spelled: &[u8], out: &mut [u8]) -> CText
+    ensures { λ r. ⌜ r ≡ flatText (outcomeOf (readIn (length (now (out .entry))) (now (spelled .entry)))) ⌝ }
+    ensures { λ _. ⌜ now (out .exit) ≡ written (readIn (length (now (out .entry))) (now (spelled .entry))) (now (out .entry)) ⌝ }
 {
     let read = name::read(spelled);
     let bytes = read.bytes;
     let outcome = read.outcome;
     match outcome {
         Outcome::Refused(number) => CText { number, length: 0 },
-        Outcome::Done(n) => {
-            copy_name(bytes, n, name);
-            CText {
-                number: 0,
-                length: n,
-            }
-        }
+        Outcome::Done(n) => flat::flatten_text(octets::put(&bytes[..n], out)),
     }
 }

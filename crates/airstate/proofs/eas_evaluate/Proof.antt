@@ -1,5 +1,16 @@
--- `airstate::eas_evaluate` meets its contract by its two calls.
-use mathlib.Core.Path.{_≡_, ap, _∙_}
+-- `airstate::eas_evaluate` refuses what no byte is, and else meets its contract by its two calls.
+use mathlib.Core.Bool.{Bool}
+use mathlib.Core.Path.{_≡_, sym, ap, _∙_}
+use Prim.Native.Nat.{ℕ, _<_}
+use native.Mathlib.Omega.{arith}
+use borrow.Author.Tests.{ne-eqb}
+use lib.Dec.{eqb}
+use Rattle.kind.specs.declared.Kind.{Kind}
+use Rattle.kind.specs.declared.Kind.the-variants.{Temperature, Entropy, Unknown}
+use Rattle.kind.specs.Kind.{pickKind, kindOf}
+use Rattle.air.specs.Choices.{chosen}
+use Rattle.air.specs.Held.{refuses}
+use Rattle.air.specs.State.{propertyOf, heldBy, answerBy}
 use Rattle.flat.specs.Flat.{flat}
 use borrow.Author.Needs.{needs}
 use Rattle.airstate.proofs.eas_evaluate.Statement.{statement}
@@ -9,14 +20,37 @@ use Rattle.airstate.proofs.eas_evaluate.Lts as lts
 use Rattle.flat.proofs.flatten.Reads as flatten-reads
 use Rattle.evaluate.proofs.evaluate.Reads as evaluate-reads
 
-evaluate-requires : tie.Need-evaluate-requires
-evaluate-requires c κs = search needs
+-- a number over 255 is no kind
+no-kind : (k : ℕ) → 255 < k → kindOf k ≡ Unknown
+no-kind k h =
+    ap (λ (b : Bool). pickKind b Temperature (pickKind (eqb k 2) Entropy Unknown)) (ne-eqb k 1 (λ e. omega arith))
+    ∙ ap (λ (b : Bool). pickKind b Entropy Unknown) (ne-eqb k 2 (λ e. omega arith))
+
+no-answer : (k v w : ℕ) → 255 < k → refuses 6 ≡ answerBy chosen k v w
+unfolding answerBy
+no-answer k v w h = sym (ap (λ (x : Kind). heldBy chosen (propertyOf x) v w) (no-kind k h))
 
 flatten-requires : tie.Need-flatten-requires
 flatten-requires c κs = search needs
 
 returns : tie.Need-returns
-returns c = c .flatten .ensures ∙ ap flat (c .before .evaluate .ensures .0)
+returns c =
+    let s = c .before .before in
+    c .flatten .ensures ∙ ap flat (no-answer (s .args .kind) (s .args .first) (s .args .second) (omega arith))
+
+cast-evaluate : tie.Need-cast-evaluate
+cast-evaluate c = search needs
+
+evaluate-requires : tie.Need-evaluate-requires
+evaluate-requires c κs = search needs
+
+flatten-requires-2 : tie.Need-flatten-requires-2
+flatten-requires-2 c κs = search needs
+
+returns-2 : tie.Need-returns-2
+returns-2 c = c .flatten2 .ensures ∙ ap flat (c .before .evaluate .ensures .0)
 
 pub eas-evaluate-spec : {M : Type 1} → statement M
-eas-evaluate-spec = tie.close (tie.spec evaluate-requires flatten-requires returns)
+eas-evaluate-spec =
+    tie.close
+    (tie.spec flatten-requires returns cast-evaluate evaluate-requires flatten-requires-2 returns-2)

@@ -1,20 +1,19 @@
--- `airstate::eas_read` reads a spelling and copies the name.
+-- `airstate::eas_read` reads a spelling and puts the name into the room.
 use mathlib.Core.Path.{_≡_, sym, ap, _∙_}
-use Prim.Native.Nat.{ℕ}
-use lib.ListN.{length, take}
+use lib.ListN.{length}
 use lib.Seq.{length-take-le}
-use Rattle.octets.specs.Room.{Text, outcomeOf}
-use Rattle.octets.specs.declared.Outcome.the-variants.{Done}
+use Rattle.octets.specs.Room.{Text, outcomeOf, written}
 use Rattle.name.proofs.Answers.{Read, read-done, read-refused}
 use Rattle.flat.specs.Flat.{flatText}
-use Rattle.airstate.specs.Texts.{overlaid}
+use Rattle.airstate.specs.Texts.{fitted}
 use borrow.Author.Needs.{needs}
 use Rattle.airstate.proofs.eas_read.Statement.{statement}
 use Rattle.airstate.proofs.eas_read.Tie as tie
 use Rattle.airstate.proofs.eas_read.Reads as reads
 use Rattle.airstate.proofs.eas_read.Lts as lts
-use Rattle.airstate.proofs.copy_name.Reads as copy-name-reads
+use Rattle.flat.proofs.flatten_text.Reads as flatten-text-reads
 use Rattle.name.proofs.read.Reads as read-reads
+use Rattle.octets.proofs.put.Reads as put-reads
 
 read-requires : tie.Need-read-requires
 read-requires c κs = search needs
@@ -25,29 +24,41 @@ enum-known-outcome c = search needs
 enum-known-outcome-2 : tie.Need-enum-known-outcome-2
 enum-known-outcome-2 c = search needs
 
-whole : (c : tie.After-known-told2) → Read (c .before .before .before .before .before .before .args .spelled .now) (c .before .before .before .before .read .result .bytes) (c .before .outcome2 .given .0 .0)
+-- the name stands in front of the array
+whole : (c : tie.After-known-told2) → Read (c .before .before .before .before .before .before .before .args .spelled .now) (c .before .before .before .before .read .result .bytes) (c .before .outcome2 .given .0 .0)
 whole c = read-done _ _ (c .before .outcome2 .given .0 .0) (c .before .before .before .before .read .ensures) (c .before .outcome2 .given .1)
 
-copy-name-requires : tie.Need-copy-name-requires
-copy-name-requires c κs = (whole (c .before) .few, whole (c .before) .inside)
+array-share-prefix-bytes : tie.Need-array-share-prefix-bytes
+array-share-prefix-bytes c = whole c .inside
+
+slice-aggregate-put : tie.Need-slice-aggregate-put
+slice-aggregate-put c = sym (length-take-le _ _ (whole (c .before) .inside))
+
+put-requires : tie.Need-put-requires
+put-requires c κs = search needs
+
+flatten-text-requires : tie.Need-flatten-text-requires
+flatten-text-requires c κs = search needs
+
+same-length : tie.Need-same-length
+same-length c = search needs
 
 returns : tie.Need-returns
 unfolding flatText
 returns c =
     let a = c .before .before .before .before in
-    let s = a .before .before in
-    let e = read-refused _ _ _ (a .read .ensures) (c .before .outcome .given .1) in
-    (sym (ap (λ (t : Text). flatText (outcomeOf t)) e), sym (ap (λ (t : Text). overlaid t (s .args .name .now)) e))
+    let out = a .before .before .before .args .out .now in
+    let e = ap (fitted (length out)) (read-refused _ _ _ (a .read .ensures) (c .before .outcome .given .1)) in
+    (sym (ap (λ (t : Text). flatText (outcomeOf t)) e), sym (ap (λ (t : Text). written t out) e))
 
 returns-2 : tie.Need-returns-2
-unfolding flatText
 returns-2 c =
-    let k = c .before .before in
-    let w = whole k in
-    let s = k .before .before .before .before .before .before in
-    let n : k .before .outcome2 .given .0 .0 ≡ length (take (k .before .outcome2 .given .0 .0) (k .before .before .before .before .read .result .bytes)) = sym (length-take-le _ _ (w .inside)) in (
-      ap (λ (m : ℕ). flatText (Done m)) n ∙ sym (ap (λ (t : Text). flatText (outcomeOf t)) (w .same)),
-      c .copy-name .ensures ∙ sym (ap (λ (t : Text). overlaid t (s .args .name .now)) (w .same)),
+    let p = c .before .before .before in
+    let k = p .before .before .before in
+    let out = k .before .before .before .before .before .before .before .args .out .now in
+    let e = ap (fitted (length out)) (whole k .same) in (
+      c .flatten-text .ensures ∙ ap flatText (p .put .ensures .0 ∙ sym (ap outcomeOf e)),
+      p .put .ensures .1 ∙ sym (ap (λ (t : Text). written t out) e),
     )
 
 pub eas-read-spec : {M : Type 1} → statement M
@@ -57,6 +68,10 @@ eas-read-spec =
     read-requires
     enum-known-outcome
     enum-known-outcome-2
-    copy-name-requires
+    array-share-prefix-bytes
+    slice-aggregate-put
+    put-requires
+    flatten-text-requires
     returns
+    same-length
     returns-2)
