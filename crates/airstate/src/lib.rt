@@ -10,6 +10,7 @@ ghost use lib.ListN.{length};
 ghost use Rattle.octets.specs.Room.{written, outcomeOf};
 ghost use Rattle.name.specs.Name.{spellingOf};
 ghost use Rattle.sheet.specs.Sheet.{sheetOf, numberOf};
+ghost use Rattle.sheet_walk.specs.Records.{recordOf};
 ghost use Rattle.air.specs.Choices.{chosen};
 ghost use Rattle.air.specs.State.{answerBy};
 ghost use Rattle.mark.specs.Mark.{markOf};
@@ -31,6 +32,14 @@ pub extern "C" fn eas_find(sheet: &[u8], spelled: &[u8]) -> CRecord
     ensures { λ r. ⌜ r ≡ flatFound (locate (now (sheet .entry)) (now (spelled .entry))) ⌝ }
 {
     flat::flatten_found(calculator::locate(sheet, spelled))
+}
+
+// A record by its number, from 0, and where its name stands.
+#[no_mangle]
+pub extern "C" fn eas_record_at(sheet: &[u8], i: usize) -> CRecord
+    ensures { λ r. ⌜ r ≡ flatFound (recordOf (now (sheet .entry)) i) ⌝ }
+{
+    flat::flatten_found(sheet_walk::record_at(sheet, i))
 }
 
 // The answer for a spelled name.

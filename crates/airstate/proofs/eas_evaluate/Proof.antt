@@ -15,10 +15,6 @@ use Rattle.flat.specs.Flat.{flat}
 use borrow.Author.Needs.{needs}
 use Rattle.airstate.proofs.eas_evaluate.Statement.{statement}
 use Rattle.airstate.proofs.eas_evaluate.Tie as tie
-use Rattle.airstate.proofs.eas_evaluate.Reads as reads
-use Rattle.airstate.proofs.eas_evaluate.Lts as lts
-use Rattle.flat.proofs.flatten.Reads as flatten-reads
-use Rattle.evaluate.proofs.evaluate.Reads as evaluate-reads
 
 -- a number over 255 is no kind
 no-kind : (k : ℕ) → 255 < k → kindOf k ≡ Unknown

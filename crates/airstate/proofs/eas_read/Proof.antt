@@ -9,11 +9,6 @@ use Rattle.airstate.specs.Texts.{fitted}
 use borrow.Author.Needs.{needs}
 use Rattle.airstate.proofs.eas_read.Statement.{statement}
 use Rattle.airstate.proofs.eas_read.Tie as tie
-use Rattle.airstate.proofs.eas_read.Reads as reads
-use Rattle.airstate.proofs.eas_read.Lts as lts
-use Rattle.flat.proofs.flatten_text.Reads as flatten-text-reads
-use Rattle.name.proofs.read.Reads as read-reads
-use Rattle.octets.proofs.put.Reads as put-reads
 
 read-requires : tie.Need-read-requires
 read-requires c κs = search needs
