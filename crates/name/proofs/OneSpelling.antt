@@ -1,21 +1,21 @@
 -- A name has one canonical spelling, the one that is written.
 -- Assumes nothing.
-use mathlib.Core.Bool.{Bool, true, false, cond, not, _&&_}
+use mathlib.Core.Bool.{Bool, true, false, cond, not, _&&_, _||_}
 use mathlib.Core.List.{List, [], _∷_, _++_}
 use mathlib.Core.Path.{_≡_, refl, sym, ap, _∙_, subst}
 use Prim.Native.Nat.{ℕ, _+_, _*_, _/_, _%_, _<_}
 use native.Mathlib.Decide.{decLt}
-use native.Mathlib.Nat.{div-add-mod'}
 use native.Mathlib.Omega.{arith}
-use lib.Dec.{T, eqb, ltb→lt}
+use borrow.Author.Tests.{eqb-true}
+use lib.Dec.{T, ltb, eqb, ltb→lt}
 use lib.ListN.{length}
 use Rattle.octets.specs.Bytes.{Bytes, no-byte, byte}
 use Rattle.octets.specs.Room.{text, refused}
-use Rattle.name.specs.Spelling.{unreserved, hexValue, isHex, hexDigit, isForm, spelledByte, spelled, Reading, wrong, bytes, push, reading}
+use Rattle.name.specs.Spelling.{within, unreserved, hexValue, isHex, hexDigit, isForm, spelledByte, spelled, Reading, wrong, bytes, push, reading}
 use Rattle.name.specs.Name.{isLength, judged, nameOf}
-use Rattle.name.specs.Laws.{Canonical, end, raw, percent, ReadThenWrite, OneName}
-use Rattle.name.proofs.Ranges.{reserved, as-true, as-false, is-true, is-false}
-use Rattle.name.proofs.RoundTrip.{plain-read, form-read, write-then-read}
+use Rattle.name.specs.Laws.{upperHex, Canonical, end, raw, percent, ReadThenWrite, OneName}
+use Rattle.name.proofs.Ranges.{along, inside, reserved, as-true, as-false, is-true, is-false}
+use Rattle.name.proofs.RoundTrip.{plain-read, form-read, written-value, write-then-read}
 
 -- ---- what is read is bytes
 unreserved-byte : (x : ℕ) → unreserved x ≡ true → x < 256
@@ -81,13 +81,34 @@ reads-bytes (x ∷ (h ∷ (l ∷ r))) bs e = go (reads-bytes (h ∷ (l ∷ r))) 
     go ih jh false false u w k = not-wrong bs k
 
 -- ---- what is written is canonical, and nothing else that reads to it is
+digit-upper : (n : ℕ) → n < 16 → T (upperHex (hexDigit n))
+digit-upper n h = is-true (along (λ m. upperHex (hexDigit m)) 0 16 tt n (omega arith) (omega arith))
+
+-- a digit is the one that is written for its value
+abbrev isOwn : ℕ → Bool
+isOwn x = ltb (hexValue x) 16 && eqb (hexDigit (hexValue x)) x
+
+upper-own : (x : ℕ) → T (upperHex x) → isOwn x ≡ true
+unfolding hexValue
+upper-own x t = go (within 48 57 x) (within 65 70 x) refl refl t
+  where
+    go : (a b : Bool) → within 48 57 x ≡ a → within 65 70 x ≡ b → T (a || b) → isOwn x ≡ true
+    go true b p q u = let i = inside 48 57 x p in along isOwn 48 10 tt x (i .0) (omega (arith, i .1))
+    go false true p q u = let i = inside 65 70 x q in along isOwn 65 6 tt x (i .0) (omega (arith, i .1))
+    go false false p q u = absurd u
+
+upper-digit : (x : ℕ) → T (upperHex x) → (hexValue x < 16) × (hexDigit (hexValue x) ≡ x)
+upper-digit x t =
+    let k = and-both (ltb (hexValue x) 16) (eqb (hexDigit (hexValue x)) x) (upper-own x t) in
+    (ltb→lt (hexValue x) 16 (k .0), eqb-true (hexDigit (hexValue x)) x (as-true (eqb (hexDigit (hexValue x)) x) (k .1)))
+
 canonical-byte : (b : ℕ) {t : List ℕ} → b < 256 → (u : Bool) → unreserved b ≡ u → Canonical t → Canonical (spelledByte b ++ t)
 unfolding spelledByte
 canonical-byte b {t} h true e c =
     subst (λ (k : Bool). Canonical (cond k (b ∷ []) (37 ∷ hexDigit (b / 16) ∷ hexDigit (b % 16) ∷ []) ++ t)) (sym e) (raw (is-true e) c)
 canonical-byte b {t} h false e c =
     subst (λ (k : Bool). Canonical (cond k (b ∷ []) (37 ∷ hexDigit (b / 16) ∷ hexDigit (b % 16) ∷ []) ++ t)) (sym e)
-    (percent (omega arith) (omega arith) (subst (λ (n : ℕ). T (not (unreserved n))) (sym (div-add-mod' b 16)) (is-false e)) c)
+    (percent (digit-upper (b / 16) (omega arith)) (digit-upper (b % 16) (omega arith)) (subst (λ (n : ℕ). T (not (unreserved n))) (sym (written-value b h)) (is-false e)) c)
 
 canonical : {bs : List ℕ} → Bytes bs → Canonical (spelled bs)
 unfolding spelled
@@ -98,12 +119,15 @@ spelled-raw : (b : ℕ) → T (unreserved b) → spelledByte b ≡ b ∷ []
 unfolding spelledByte
 spelled-raw b t = simp (as-true (unreserved b) t)
 
-spelled-percent : (h l : ℕ) → l < 16 → T (not (unreserved (h * 16 + l))) → spelledByte (h * 16 + l) ≡ 37 ∷ hexDigit h ∷ hexDigit l ∷ []
+spelled-percent : (h l : ℕ) → T (upperHex h) → T (upperHex l) → T (not (unreserved (hexValue h * 16 + hexValue l)))
+    → spelledByte (hexValue h * 16 + hexValue l) ≡ 37 ∷ h ∷ l ∷ []
 unfolding spelledByte
-spelled-percent h l q t =
-    let a : (h * 16 + l) / 16 ≡ h = omega arith in
-    let b : (h * 16 + l) % 16 ≡ l = omega arith in
-    simp (as-false (unreserved (h * 16 + l)) t, a, b)
+spelled-percent h l p q t =
+    let u = upper-digit h p in
+    let v = upper-digit l q in
+    let a : (hexValue h * 16 + hexValue l) / 16 ≡ hexValue h = omega (arith, v .0) in
+    let b : (hexValue h * 16 + hexValue l) % 16 ≡ hexValue l = omega (arith, v .0) in
+    simp (as-false (unreserved (hexValue h * 16 + hexValue l)) t, a, b, u .1, v .1)
 
 only : {s : List ℕ} → Canonical s → (bs : List ℕ) → reading s ≡ bytes bs → s ≡ spelled bs
 unfolding reading spelled
@@ -114,9 +138,9 @@ only (raw {b = b} {s = s} t c) bs e =
     ∙ ap (λ (x : List ℕ). x ++ spelled (k .rest)) (sym (spelled-raw b t))
     ∙ ap spelled (sym (k .whole))
 only (percent {h = h} {l = l} {s = s} p q t c) bs e =
-    let k = pushed (h * 16 + l) (reading s) bs (sym (form-read h l s p q) ∙ e) in
-    ap (λ (x : List ℕ). 37 ∷ (hexDigit h ∷ (hexDigit l ∷ x))) (only c (k .rest) (k .read))
-    ∙ ap (λ (x : List ℕ). x ++ spelled (k .rest)) (sym (spelled-percent h l q t))
+    let k = pushed (hexValue h * 16 + hexValue l) (reading s) bs (sym (form-read h l s (upper-digit h p .0) (upper-digit l q .0)) ∙ e) in
+    ap (λ (x : List ℕ). 37 ∷ (h ∷ (l ∷ x))) (only c (k .rest) (k .read))
+    ∙ ap (λ (x : List ℕ). x ++ spelled (k .rest)) (sym (spelled-percent h l p q t))
     ∙ ap spelled (sym (k .whole))
 
 -- ---- a name that is read
@@ -142,7 +166,8 @@ unfolding nameOf
 read-then-write s name e =
     let k = named (reading s) name e in
     let v = name-valid s name e in
-    (canonical (v .0), write-then-read name (v .0) (v .1) .1, λ c. only c name (k .read))
+    let w = write-then-read name (v .0) (v .1) in
+    (w .0, canonical (v .0), w .1, λ c. only c name (k .read))
 
 pub one-name : OneName
-one-name s t a b p q = (ap spelled, λ e. let x = read-then-write s a p .1 in let y = read-then-write t b q .1 in let z : text a ≡ text b = sym x ∙ ap nameOf e ∙ y in cc)
+one-name s t a b p q = (ap spelled, λ e. let x = read-then-write s a p .2 in let y = read-then-write t b q .2 in let z : text a ≡ text b = sym x ∙ ap nameOf e ∙ y in cc)

@@ -24,7 +24,7 @@ plain-read x [] e = simp e
 plain-read x (h ∷ []) e = simp e
 plain-read x (h ∷ (l ∷ r)) e = simp e
 
-digit-value : (n : ℕ) → n < 16 → hexValue (hexDigit n) ≡ n
+pub digit-value : (n : ℕ) → n < 16 → hexValue (hexDigit n) ≡ n
 unfolding hexValue
 digit-value n h = eqb-true (hexValue (hexDigit n)) n (along (λ m. eqb (hexValue (hexDigit m)) m) 0 16 tt n (omega arith) (omega arith))
 
@@ -32,18 +32,24 @@ percent-reserved : unreserved 37 ≡ false
 unfolding unreserved
 percent-reserved = refl
 
--- a percent form with upper-case digits is read as the byte that they give
-pub form-read : (h l : ℕ) (r : List ℕ) → h < 16 → l < 16 → reading (37 ∷ (hexDigit h ∷ (hexDigit l ∷ r))) ≡ push (h * 16 + l) (reading r)
+-- a percent form is read as the byte that its digits give
+pub form-read : (h l : ℕ) (r : List ℕ) → hexValue h < 16 → hexValue l < 16 → reading (37 ∷ (h ∷ (l ∷ r))) ≡ push (hexValue h * 16 + hexValue l) (reading r)
 unfolding reading
-form-read h l r p q = simp (percent-reserved, digit-value h p, digit-value l q, lt-ltb h 16 p, lt-ltb l 16 q)
+form-read h l r p q = simp (percent-reserved, lt-ltb (hexValue h) 16 p, lt-ltb (hexValue l) 16 q)
+
+-- the digits that are written give the byte again
+pub written-value : (b : ℕ) → b < 256 → hexValue (hexDigit (b / 16)) * 16 + hexValue (hexDigit (b % 16)) ≡ b
+written-value b h = rw (digit-value (b / 16) (omega arith), digit-value (b % 16) (omega arith)) (div-add-mod' b 16)
 
 byte-read : (b : ℕ) (t : List ℕ) → b < 256 → (u : Bool) → unreserved b ≡ u → reading (spelledByte b ++ t) ≡ push b (reading t)
 unfolding spelledByte
 byte-read b t h true e = ap (λ (c : Bool). reading (cond c (b ∷ []) (37 ∷ hexDigit (b / 16) ∷ hexDigit (b % 16) ∷ []) ++ t)) e ∙ plain-read b t e
 byte-read b t h false e =
+    let u = digit-value (b / 16) (omega arith) in
+    let v = digit-value (b % 16) (omega arith) in
     ap (λ (c : Bool). reading (cond c (b ∷ []) (37 ∷ hexDigit (b / 16) ∷ hexDigit (b % 16) ∷ []) ++ t)) e
-    ∙ form-read (b / 16) (b % 16) t (omega arith) (omega arith)
-    ∙ ap (λ (n : ℕ). push n (reading t)) (div-add-mod' b 16)
+    ∙ form-read (hexDigit (b / 16)) (hexDigit (b % 16)) t (omega (arith, u)) (omega (arith, v))
+    ∙ ap (λ (n : ℕ). push n (reading t)) (written-value b h)
 
 name-read : {bs : List ℕ} → Bytes bs → reading (spelled bs) ≡ bytes bs
 unfolding reading spelled
