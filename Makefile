@@ -3,7 +3,8 @@
 #   make                             target/staticlib/libairstate.a and target/host/libairstate.so
 #   make install PREFIX=/usr/local   header, both libraries, pkg-config file; DESTDIR is put in front
 #   make run                         proves and builds the listing program and runs it on the sample sheet
-#   make test                        everything under host/; LISTING=path tests the listing program too
+#   make test                        builds and runs everything under host/, with the listing program; a check that is
+#                                    left out is an error
 
 PREFIX ?= /usr/local
 DESTDIR ?=
@@ -14,6 +15,7 @@ VERSION = 1.0.0
 MAJOR = 1
 
 STATIC ?= target/staticlib/libairstate.a
+LISTING ?= target/bin/listing
 BUILD ?= target/host
 SHARED = $(BUILD)/libairstate.so.$(VERSION)
 
@@ -61,8 +63,8 @@ uninstall:
 	rm -f $(DESTDIR)$(LIBDIR)/libairstate.a $(DESTDIR)$(LIBDIR)/libairstate.so*
 
 test: all
-	$(MAKE) -C host test LIB=$(abspath $(STATIC)) BUILD=$(abspath $(BUILD)) LISTING=$(abspath $(LISTING))
-	host/install_test.sh $(abspath $(STATIC))
+	$(MAKE) -C host test STRICT=1 LIB=$(abspath $(STATIC)) BUILD=$(abspath $(BUILD)) LISTING=$(abspath $(LISTING))
+	host/tests/install_test.sh $(abspath $(STATIC))
 
 clean:
 	rm -rf $(BUILD)

@@ -1,4 +1,3 @@
-#define _DEFAULT_SOURCE
 #include "guard.h"
 
 #include <stdio.h>

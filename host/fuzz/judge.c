@@ -2,7 +2,7 @@
 
 #include <math.h>
 
-#include "../tgas.h"
+#include "bench/tgas.h"
 #include "guard.h"
 
 /* Doubles decide what they can: a logarithm by free answer one with this much added for libm's own error. */

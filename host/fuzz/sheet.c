@@ -12,8 +12,8 @@
 #include <stdlib.h>
 #include <string.h>
 
-#include "../baseline.h"
-#include "../common.h"
+#include "bench/baseline.h"
+#include "tools/common.h"
 #include "guard.h"
 #include "judge.h"
 

@@ -4,7 +4,6 @@
  * C that makes the same checks and finds names by chained hashing. Each row is the median of several repetitions, in
  * which library and baseline take turns, and nothing is judged by time. With a listing program given, that program is
  * run on 3,000 names against this one run as a listing. */
-#define _GNU_SOURCE
 #include <fcntl.h>
 #include <math.h>
 #include <spawn.h>
@@ -16,7 +15,7 @@
 #include <unistd.h>
 
 #include "baseline.h"
-#include "common.h"
+#include "tools/common.h"
 #include "tgas.h"
 
 enum { REPETITIONS = 9, NAMES = 3000 };

@@ -2,13 +2,12 @@
  *
  * Each call runs on a thread that first fills the rest of its stack with marked bytes; the deepest byte that changed
  * tells the use, to within the caller's own frame. */
-#define _DEFAULT_SOURCE
 #include <pthread.h>
 #include <stdlib.h>
 #include <string.h>
 #include <sys/mman.h>
 
-#include "common.h"
+#include "tools/common.h"
 
 enum { STACK = 1 << 20, MARK = 0xA7, MOST = 128 * 1024, OWN = 512, SHEETS = 5 };
 

@@ -1,7 +1,7 @@
 /* Linked in front of the library, this gives the answers of one misreading, 1 to 5, which the check of that number in
  * checklist.c must find. Its place is taken by the linker's --wrap for eas_search and eas_find. */
 #include "airstate.h"
-#include "tgas.h"
+#include "bench/tgas.h"
 
 eas_answer __real_eas_search(const uint8_t *sheet, size_t n, const uint8_t *spelled, size_t m);
 eas_record __real_eas_find(const uint8_t *sheet, size_t n, const uint8_t *spelled, size_t m);

@@ -1,4 +1,3 @@
-#define _DEFAULT_SOURCE
 #include "lent.h"
 
 #include <stdio.h>

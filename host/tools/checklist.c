@@ -14,7 +14,7 @@
 #include <string.h>
 
 #include "common.h"
-#include "tgas.h"
+#include "bench/tgas.h"
 
 #ifndef SAMPLES
 #define SAMPLES "samples"

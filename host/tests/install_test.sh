@@ -17,11 +17,11 @@ flags=$(pkg-config --cflags --libs airstate) || fail "pkg-config"
 
 # prints_stored PROGRAM
 prints_stored() {
-    "$1" host/samples/sample.eas nose%2fcap%201 42 hot 43 a%2 | cmp - host/expected/example.txt
+    "$1" host/samples/sample.eas nose%2fcap%201 42 hot 43 a%2 | cmp - host/tests/expected/example.txt
 }
 
-cc -std=c11 host/example.c $flags -o "$work/shared" && prints_stored "$work/shared" || fail "the shared library"
-cc -std=c11 host/example.c -I"$work/installed/include" "$work/installed/lib/libairstate.a" $LIBS -o "$work/static" &&
+cc -std=c11 host/tools/example.c $flags -o "$work/shared" && prints_stored "$work/shared" || fail "the shared library"
+cc -std=c11 host/tools/example.c -I"$work/installed/include" "$work/installed/lib/libairstate.a" $LIBS -o "$work/static" &&
     prints_stored "$work/static" || fail "the static library"
 if command -v g++ > /dev/null; then
     g++ -fsyntax-only -Wall -Wextra -x c++ include/airstate.h || fail "the header as C++"

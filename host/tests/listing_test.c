@@ -3,7 +3,6 @@
  * listing_test PROGRAM [seed [count]]. The program runs in an empty folder that holds sheet.eas or nothing. Answers
  * come from the library, because a listing's logarithms and temperatures are free answers; the rest is the
  * reference's. */
-#define _XOPEN_SOURCE 700
 #include <fcntl.h>
 #include <inttypes.h>
 #include <stdio.h>
