@@ -1,26 +1,23 @@
 /* Equilibrium air: temperature, entropy and the state sheet.
  *
- * No call keeps state, allocates or fails otherwise than by a number. A byte sequence is a pointer and a length; a null
- * pointer is allowed where the length is 0. A refusal changes no byte of an output buffer; a success writes a prefix.
+ * A sheet is the bytes of a file as docs/FORMAT.md has it: named states, each with a kind and two values. A spelled name
+ * is a name by RFC 3986: letters, digits and - . _ ~ stand for themselves, any other byte is % and two hexadecimal
+ * digits. A name itself is 1 to 40 bytes of any value.
  *
- * number  condition, the first that applies in this order
- *   1     sheet over 65,536 bytes
- *   2     sheet under 7 bytes, or its mark is wrong
- *   3     sheet version not 1
- *   4     a record's length byte or rest is missing, or bytes are left over after the records
- *   5     a record's name length is 0 or over 40
- *   6     kind unknown
- *  16     a record's name was seen earlier in the sheet
- *   7     a byte or a percent form of a spelling is wrong
- *   8     a name's length is 0 or over 40
- *   9     no such name
- *  10     first value out of range
- *  11     density out of range
- *  12     Z above its limit, or for a temperature outside -1,000,000 to 3,000,000
- *  13     G below 0 or above 19,600,000,000
- *  14     output shorter than the text
- *  15     name list over 65,536 bytes
- */
+ * kind  first value                    second value                   answer
+ *   1   pressure in 10^-6 Pa,          density in 10^-11 kg/m3,       letter 'T': temperature in 10^-6 K
+ *       1 to 10^17                     12,920 to 129,200,000,000,000
+ *   2   energy in 10^-3 J/kg,          the same                       letter 'S': entropy in 10^-4 J/(kg K)
+ *       7,840,840 to 10^12
+ *
+ * An answer's logarithms are decimal ones in millionths: y of the density over 1.292 kg/m3, x of the pressure over
+ * 101,330 Pa, z = x - y for a temperature, z of the energy over 78,408.4 J/kg for an entropy.
+ *
+ * A byte sequence is a pointer and a length; a null pointer is allowed where the length is 0. A buffer that is lent for
+ * writing overlaps no other argument. A refusal changes no byte of it; a success writes a prefix.
+ *
+ * No call keeps state, allocates or fails otherwise than by a number, so that calls may run in several threads at once.
+ * No call uses 128 KB of stack. */
 #ifndef AIRSTATE_H
 #define AIRSTATE_H
 
@@ -31,65 +28,159 @@
 extern "C" {
 #endif
 
-/* A fit's value G and its weight W, in units of 10^-10; in a join that shows a value, that edge's own value. */
+/* The version of this header. The library has the same soname as long as the first number stays. */
+#define EAS_VERSION_MAJOR 1
+#define EAS_VERSION_MINOR 0
+#define EAS_VERSION_PATCH 0
+#define EAS_VERSION "1.0.0"
+
+/* Whether this header is of a version or a later one: #if !EAS_VERSION_AT_LEAST(1, 0, 0) ... #error */
+#define EAS_VERSION_AT_LEAST(major, minor, patch)                                                                      \
+    (EAS_VERSION_MAJOR * 1000000 + EAS_VERSION_MINOR * 1000 + EAS_VERSION_PATCH >=                                     \
+     (major)*1000000 + (minor)*1000 + (patch))
+
+/* Bytes that are enough for every result. */
+enum {
+    EAS_NAME_ROOM = 40,      /* a name */
+    EAS_SPELLING_ROOM = 120, /* a spelling as it is written */
+    EAS_LINE_ROOM = 192,     /* a listing line with its newline */
+    EAS_SHEET_ROOM = 65536   /* a sheet; the longest name list too */
+};
+
+/* Refusals, in the order in which they are looked for: the first that applies is given. */
+enum {
+    /* the sheet as a whole */
+    EAS_SHEET_TOO_LONG = 1,  /* over 65,536 bytes */
+    EAS_NOT_A_SHEET = 2,     /* under 7 bytes, or the first three are not EAS */
+    EAS_VERSION_UNKNOWN = 3, /* its version is not 1 */
+    /* each record in turn */
+    EAS_RECORD_CUT = 4,         /* its length byte or its rest is missing; after the records, bytes are left over */
+    EAS_RECORD_NAME_LENGTH = 5, /* its name's length is 0 or over 40 */
+    EAS_KIND_UNKNOWN = 6,       /* its kind is none of the table above */
+    EAS_NAME_REPEATED = 16,     /* an earlier record has its name */
+    /* a name */
+    EAS_SPELLING_WRONG = 7, /* a byte or a percent form of the spelling is wrong */
+    EAS_NAME_LENGTH = 8,    /* the name's length, not its spelling's, is 0 or over 40 */
+    EAS_NAME_ABSENT = 9,    /* no record has it */
+    /* a state */
+    EAS_FIRST_OUT_OF_RANGE = 10,   /* the first value is out of its range */
+    EAS_DENSITY_OUT_OF_RANGE = 11, /* the density is out of its range */
+    EAS_Z_OUT_OF_RANGE = 12,       /* a temperature's z is below -1,000,000 or above 3,000,000; an entropy's is above its
+                                      band's limit, in a join above that of either edge */
+    EAS_FIT_OUT_OF_RANGE = 13,     /* a temperature's G is below 0 or above 19,600,000,000 */
+    /* a text */
+    EAS_ROOM_TOO_SHORT = 14, /* the room is shorter than the text */
+    EAS_LIST_TOO_LONG = 15   /* the name list is over 65,536 bytes */
+};
+
+/* A refusal in words. */
+static inline const char *eas_reason(uint32_t number) {
+    switch (number) {
+    case 0:
+        return "not refused";
+    case EAS_SHEET_TOO_LONG:
+        return "the sheet is over 65,536 bytes";
+    case EAS_NOT_A_SHEET:
+        return "not a sheet: under 7 bytes, or it does not begin with EAS";
+    case EAS_VERSION_UNKNOWN:
+        return "the sheet's version is not 1";
+    case EAS_RECORD_CUT:
+        return "bytes are missing from a record, or left over after the last";
+    case EAS_RECORD_NAME_LENGTH:
+        return "a record's name has no bytes or over 40";
+    case EAS_KIND_UNKNOWN:
+        return "the kind is unknown";
+    case EAS_SPELLING_WRONG:
+        return "a byte or a percent form of the spelled name is wrong";
+    case EAS_NAME_LENGTH:
+        return "the name has no bytes or over 40";
+    case EAS_NAME_ABSENT:
+        return "no state of the sheet has this name";
+    case EAS_FIRST_OUT_OF_RANGE:
+        return "pressure outside 1e-6 to 1e11 Pa, or energy outside 7840.84 to 1e9 J/kg";
+    case EAS_DENSITY_OUT_OF_RANGE:
+        return "density outside 1.292e-7 to 1292 kg/m3";
+    case EAS_Z_OUT_OF_RANGE:
+        return "pressure or energy outside what the fits cover at this density";
+    case EAS_FIT_OUT_OF_RANGE:
+        return "the fitted temperature is outside 273.15 to about 24,900 K";
+    case EAS_ROOM_TOO_SHORT:
+        return "the room for the text is too short";
+    case EAS_LIST_TOO_LONG:
+        return "the name list is over 65,536 bytes";
+    case EAS_NAME_REPEATED:
+        return "the name was seen earlier in the sheet";
+    default:
+        return "unknown refusal";
+    }
+}
+
+/* One fit: the exponent G of the temperature over 273.15 K, and the weight W of the fit's second part, both in units of
+ * 10^-10. value is 0 but in a join that shows a value: then it is that edge's own. */
 typedef struct {
     int64_t fit, weight, value;
 } eas_edge;
 
 enum { EAS_CARRIES_LOGS = 1, EAS_CARRIES_X = 2, EAS_CARRIES_LOW = 4, EAS_CARRIES_HIGH = 8, EAS_CARRIES_VALUE = 16 };
 
-/* Every field that is not carried is 0, so that two answers compare field by field. */
+/* Every field that is not carried is 0, so that two answers compare field by field. A refusal 12 carries the logarithms,
+ * a refusal 13 the fit too; the others carry nothing. */
 typedef struct {
     uint32_t number;    /* 0, or the refusal's number */
     uint32_t letter;    /* 'T' temperature, 'S' entropy; 0 where nothing was worked out */
-    uint32_t carries;   /* 1: y and z; 2: x; 4: low edge; 8: high edge; 16: value */
+    uint32_t carries;   /* which of the fields below hold something: the sum of EAS_CARRIES_ values */
     int64_t x, y, z;    /* logarithms in whole millionths */
-    int64_t value;      /* microkelvin, or entropy in 0.0001 J/(kg K) */
-    eas_edge low, high; /* a single fit stands in low */
+    int64_t value;      /* temperature in 10^-6 K, or entropy in 10^-4 J/(kg K) */
+    eas_edge low, high; /* a single fit stands in low; a perfect gas and an entropy have none */
 } eas_answer;
 
-/* A record of a sheet and where its name stands there. */
+/* A record of a sheet. Its name is the `length` bytes of the sheet from `start` on, not spelled. Refused: all 0 but the
+ * number. */
 typedef struct {
     uint32_t number, kind;
-    uint64_t first, second;
+    uint64_t first, second; /* in the units of the kind */
     size_t start, length;
 } eas_record;
 
-/* number 0: that many bytes were written. */
+/* number 0: the first `length` bytes of the room were written. Refused: length is 0. */
 typedef struct {
     uint32_t number;
     size_t length;
 } eas_text;
 
+/* across is y + 7,000,000: the decimal logarithm of the density over 1.292e-7 kg/m3, in millionths, 0 to 10,000,000.
+ * up is the answer's value. Both are whole numbers. */
 typedef struct {
     double across, up;
 } eas_point;
 
-/* blank 0: a point; else the refusal's number. */
+/* A plot mark. blank 0: a point; else the refusal's number, and the point is 0, 0. */
 typedef struct {
     uint32_t blank;
     eas_point point;
 } eas_mark;
 
-/* Checks a sheet: 0, 1 to 6 or 16. */
+/* Checks a sheet: 0, or 1 to 6 or 16. */
 uint32_t eas_check(const uint8_t *sheet, size_t n);
 
 /* Finds a spelled name: its record, or 1 to 9 or 16. */
 eas_record eas_find(const uint8_t *sheet, size_t n, const uint8_t *spelled, size_t m);
 
-/* Finds a spelled name and works out its state: the whole answer. */
+/* Finds a spelled name and works out its state: 0, or 1 to 13 or 16. */
 eas_answer eas_search(const uint8_t *sheet, size_t n, const uint8_t *spelled, size_t m);
 
-/* Works out a state: kind 1 pressure and density, 2 energy and density. Refuses with 6 or 10 to 13. */
+/* Works out a state of a kind: 0, or 6 or 10 to 13. */
 eas_answer eas_evaluate(uint8_t kind, uint64_t first, uint64_t second);
 
-/* The plot mark of a spelled name. */
+/* The plot mark of a spelled name: a point, or blank with 1 to 13 or 16. */
 eas_mark eas_plot(const uint8_t *sheet, size_t n, const uint8_t *spelled, size_t m);
 
-/* The listing line of a spelled name; 14 where room is too short. A refused search is a line too. */
+/* The listing line of a spelled name, with its newline: "NAME T Y Z VALUE", "NAME S Y Z VALUE" or "NAME ! NUMBER", the
+ * name spelled with upper-case digits, or ? where it cannot be read. A refused search is a line too: the only refusal
+ * is 14. Every line fits EAS_LINE_ROOM bytes; with less room than the line has, call again with that much. */
 eas_text eas_line(const uint8_t *sheet, size_t n, const uint8_t *spelled, size_t m, uint8_t *out, size_t room);
 
-/* Spells a raw name: 8, 14. */
+/* Spells a name: 8, or 14 where the room is shorter than the spelling; EAS_SPELLING_ROOM bytes are always enough. */
 eas_text eas_spell(const uint8_t *name, size_t n, uint8_t *out, size_t room);
 
 /* Reads a spelling into 40 bytes, which must be there (no null pointer): 7, 8. */
