@@ -31,6 +31,12 @@ static inline uint64_t random_below(random_source *r, uint64_t count)
     return random_bits(r) % count;
 }
 
+/* From 0 to below 1. */
+static inline double random_unit(random_source *r)
+{
+    return (double)(random_bits(r) >> 11) / 9007199254740992.0;
+}
+
 static inline int64_t random_between(random_source *r, int64_t low, int64_t high)
 {
     return low + (int64_t)random_below(r, (uint64_t)(high - low) + 1);

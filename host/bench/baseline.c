@@ -185,30 +185,33 @@ eas_text baseline_spell(const uint8_t *name, size_t n, uint8_t *out, size_t room
 }
 
 static baseline_answer temperature(uint64_t pressure, uint64_t density) {
-    double x = log10((double)pressure / 101330000000.0), y = log10((double)density / 129200000000.0);
+    double x = log10((double)pressure / (double)STANDARD_PRESSURE), y = log10((double)density / (double)STANDARD_DENSITY);
     baseline_answer a = {0, 'T', y, x - y, 0};
-    if (a.z < -1 || a.z > 3) {
+    if (a.z < MILLIONTHS(LEAST_Z) || a.z > MILLIONTHS(MOST_Z)) {
         a.number = 12;
-    } else if (a.z <= 0.25) {
+    } else if (a.z <= MILLIONTHS(PERFECT_Z)) {
         a.value = (double)pressure * 1e13 / (28706.0 * (double)density);
     } else {
         double fit = tgas1_fit(tgas1_parts(tgas_band(a.y), a.y, a.z));
-        a.number = fit < 0 || fit > 1.96 ? 13 : 0;
-        a.value = 273150000.0 * pow(10, fit);
+        a.number = fit < 0 || fit > (double)MOST_FIT / 1e10 ? 13 : 0;
+        a.value = (double)STANDARD_TEMPERATURE * pow(10, fit);
     }
     return a;
 }
 
-static int within_limit(double y, double z) {
-    int band = tgas_band(y);
-    return z <= (band == LOW ? 3.69 : band == MIDDLE ? 3.4 : 3.0);
+/* Inside a strip the band above it has the smaller limit. */
+static int judging_band(double y) {
+    if (fabs(y - MILLIONTHS(LOWER_EDGE)) < MILLIONTHS(LOWER_HALF))
+        return MIDDLE;
+    if (fabs(y - MILLIONTHS(UPPER_EDGE)) < MILLIONTHS(UPPER_HALF))
+        return HIGH;
+    return tgas_band(y);
 }
 
 static baseline_answer entropy(uint64_t energy, uint64_t density) {
-    double y = log10((double)density / 129200000000.0), z = log10((double)energy / 78408400.0);
-    double above = fabs(y + 4.5) < 0.025 ? -4.475 : fabs(y + 0.5) < 0.005 ? -0.495 : y;
+    double y = log10((double)density / (double)STANDARD_DENSITY), z = log10((double)energy / (double)STANDARD_ENERGY);
     baseline_answer a = {0, 'S', y, z, 0};
-    if (within_limit(above, z))
+    if (z <= MILLIONTHS(entropy_most_z[judging_band(y)]))
         a.value = 1e4 * tgas2_joined(y, z);
     else
         a.number = 12;
@@ -218,9 +221,9 @@ static baseline_answer entropy(uint64_t energy, uint64_t density) {
 static baseline_answer evaluate(uint8_t kind, uint64_t first, uint64_t second) {
     if (kind != 1 && kind != 2)
         return (baseline_answer){.number = 6};
-    if (kind == 1 ? first < 1 || first > 100000000000000000u : first < 7840840 || first > 1000000000000u)
+    if (kind == 1 ? first < LEAST_PRESSURE || first > MOST_PRESSURE : first < LEAST_ENERGY || first > MOST_ENERGY)
         return (baseline_answer){.number = 10};
-    if (second < 12920 || second > 129200000000000u)
+    if (second < LEAST_DENSITY || second > MOST_DENSITY)
         return (baseline_answer){.number = 11};
     return kind == 1 ? temperature(first, second) : entropy(first, second);
 }

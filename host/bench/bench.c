@@ -3,10 +3,11 @@
  * Temperature and entropy are measured against the listing in doubles with libm, the rest against a calculator in plain
  * C that makes the same checks and finds names by chained hashing. Each row is the median of several repetitions, in
  * which library and baseline take turns, and nothing is judged by time. With a listing program given, that program is
- * run on 3,000 names against this one run as a listing. */
+ * run on many names against this one run as a listing. */
 #include <fcntl.h>
 #include <math.h>
 #include <spawn.h>
+#include <stdio.h>
 #include <stdlib.h>
 #include <string.h>
 #include <sys/resource.h>
@@ -15,10 +16,11 @@
 #include <unistd.h>
 
 #include "baseline.h"
-#include "tools/common.h"
+#include "random.h"
 #include "tgas.h"
+#include "tools/record.h"
 
-enum { REPETITIONS = 9, NAMES = 3000 };
+enum { REPETITIONS = 9, NAMES = 3000, SEED = 20260101 };
 
 typedef struct {
     uint64_t first, second;
@@ -38,78 +40,56 @@ static uint8_t name_list[SHEET_MOST + 1];
 static size_t name_list_size;
 static volatile double sink;
 
-/* A random number from 0 to below 1. */
-static double uniform(void) {
-    static uint64_t seed = 20260101;
-    seed ^= seed << 13;
-    seed ^= seed >> 7;
-    seed ^= seed << 17;
-    return (double)(seed >> 11) / 9007199254740992.0;
+/* standard·10^logarithm, to the nearest whole number. */
+static uint64_t scaled(uint64_t standard, double logarithm) {
+    return (uint64_t)llround((double)standard * pow(10, logarithm));
 }
 
 /* Two thirds of the temperatures are fitted; every state is accepted. */
 static void make_states(void) {
+    random_source r = random_case(SEED, 0, 0);
     temperatures = malloc(states * sizeof *temperatures);
     entropies = malloc(states * sizeof *entropies);
     if (!temperatures || !entropies)
         exit(1);
     for (size_t i = 0; i < states;) {
-        double y = -7 + 10 * uniform(), z = i % 3 ? 0.2500015 + 2.3 * uniform() : -0.99 + 1.23 * uniform();
-        pair p = {(uint64_t)llround(101330000000.0 * pow(10, y + z)), (uint64_t)llround(129200000000.0 * pow(10, y))};
+        double y = -7 + 10 * random_unit(&r);
+        double z = i % 3 ? 0.2500015 + 2.3 * random_unit(&r) : -0.99 + 1.23 * random_unit(&r);
+        pair p = {scaled(STANDARD_PRESSURE, y + z), scaled(STANDARD_DENSITY, y)};
         temperatures[i] = p;
         i += eas_evaluate(1, p.first, p.second).number == 0;
     }
     for (size_t i = 0; i < states;) {
-        double y = -7 + 10 * uniform(), z = -0.99 + 4.6 * uniform();
-        pair p = {(uint64_t)llround(78408400.0 * pow(10, z)), (uint64_t)llround(129200000000.0 * pow(10, y))};
+        double y = -7 + 10 * random_unit(&r), z = -0.99 + 4.6 * random_unit(&r);
+        pair p = {scaled(STANDARD_ENERGY, z), scaled(STANDARD_DENSITY, y)};
         entropies[i] = p;
         i += eas_evaluate(2, p.first, p.second).number == 0;
     }
 }
 
-static size_t put_record(uint8_t *sheet, size_t at, const uint8_t *name, size_t length, uint8_t kind, pair p) {
-    sheet[at] = (uint8_t)length;
-    memcpy(sheet + at + 1, name, length);
-    sheet[at + 1 + length] = kind;
-    put_number(sheet + at + 2 + length, 8, p.first);
-    put_number(sheet + at + 10 + length, 8, p.second);
-    return at + 1 + length + 17;
-}
-
-static void put_head(uint8_t *sheet, unsigned count) {
-    memcpy(sheet, "EAS\0\1", 5);
-    put_number(sheet + 5, 2, count);
-}
-
 static void make_small_sheet(void) {
     static const char *const names[] = {"nose/cap 1", "42", "hot"}, *const spelled[] = {"nose%2Fcap%201", "42", "hot"};
-    size_t at = HEAD;
+    small_size = put_head(small_sheet);
     for (int i = 0; i < 3; i++) {
-        at = put_record(small_sheet, at, (const uint8_t *)names[i], strlen(names[i]), 1, temperatures[i]);
+        small_size = append_record(small_sheet, small_size, (const uint8_t *)names[i], strlen(names[i]), 1,
+                                   temperatures[i].first, temperatures[i].second);
         small_names[i] = (text){(const uint8_t *)spelled[i], strlen(spelled[i])};
     }
-    put_head(small_sheet, 3);
-    small_size = at;
 }
 
 /* The most records that fit: every name of one byte, then names of two. */
 static void make_full_sheet(void) {
-    size_t at = HEAD;
-    unsigned count = 0;
-    while (at + (count < 256 ? 19u : 20u) <= SHEET_MOST) {
-        uint8_t name[2] = {(uint8_t)count, 0};
-        size_t length = count < 256 ? 1 : 2;
-        put_number(name, (int)length, count < 256 ? count : count - 256);
-        int temperature = count % 2 == 0;
-        pair p = temperature ? temperatures[count % states] : entropies[count % states];
-        at = put_record(full_sheet, at, name, length, temperature ? 1 : 2, p);
-        count++;
+    full_size = put_head(full_sheet);
+    for (unsigned i = 0; full_size + RECORD_LEAST + (i < 256 ? 0u : 1u) <= SHEET_MOST; i++) {
+        uint8_t name[2];
+        size_t length = i < 256 ? 1 : 2;
+        put_number(name, (int)length, i < 256 ? i : i - 256);
+        pair p = i % 2 == 0 ? temperatures[i % states] : entropies[i % states];
+        full_size = append_record(full_sheet, full_size, name, length, i % 2 == 0 ? 1 : 2, p.first, p.second);
     }
-    put_head(full_sheet, count);
-    full_size = at;
 }
 
-/* 3,000 of the fullest sheet's names, spelled, each on a line, in an order that is not the sheet's. */
+/* NAMES of the fullest sheet's names, spelled, each on a line, in an order that is not the sheet's. */
 static void make_names(void) {
     size_t at = HEAD, used = 0;
     unsigned count = record_count(full_sheet), kept = 0;
@@ -187,10 +167,18 @@ static double plain_program(void) {
 /* What the listing program does, in plain C. */
 static int be_the_listing(void) {
     FILE *file = fopen("sheet.eas", "rb");
-    size_t n = file ? read_sheet(file, small_sheet) : 0;
+    size_t n = file ? fread(small_sheet, 1, sizeof small_sheet, file) : 0;
     size_t length = fread(name_list, 1, sizeof name_list, stdin);
     baseline_listing(small_sheet, n, name_list, length, stdout);
     return 0;
+}
+
+/* What is measured with NAMES names. */
+static char lines_title[48], program_title[48];
+
+static void make_titles(void) {
+    snprintf(lines_title, sizeof lines_title, "%d,%03d listing lines, fullest sheet", NAMES / 1000, NAMES % 1000);
+    snprintf(program_title, sizeof program_title, "the listing program, %d,%03d names", NAMES / 1000, NAMES % 1000);
 }
 
 typedef struct {
@@ -251,7 +239,7 @@ static void write_file(const char *path, const uint8_t *bytes, size_t n) {
 
 /* Runs both listings in a folder of their own. */
 static void measure_program(const char *path) {
-    static const row r = {"the listing program, 3,000 names", "ms", library_program, plain_program, 1, 1e3};
+    static const row r = {program_title, "ms", library_program, plain_program, 1, 1e3};
     char folder[] = "/tmp/bench-XXXXXX", full[4096], own[4096];
     if (!realpath(path, full) || !realpath("/proc/self/exe", own) || !mkdtemp(folder) || chdir(folder)) {
         fprintf(stderr, "bench: %s cannot be run\n", path);
@@ -277,13 +265,14 @@ int main(int argc, char **argv) {
     make_small_sheet();
     make_full_sheet();
     make_names();
+    make_titles();
     const row rows[] = {
         {"temperature", "ns", library_temperature, listing_temperature, (double)states, 1e9},
         {"entropy", "ns", library_entropy, listing_entropy, (double)states, 1e9},
         {"search, sheet of 3 states", "ns", library_search_small, baseline_search_small, SMALL_CALLS, 1e9},
         {"search, fullest sheet", "µs", library_search_full, baseline_search_full, FULL_CALLS, 1e6},
         {"listing line, sheet of 3 states", "ns", library_line, plain_line, SMALL_CALLS, 1e9},
-        {"3,000 listing lines, fullest sheet", "ms", library_lines, plain_lines, 1, 1e3},
+        {lines_title, "ms", library_lines, plain_lines, 1, 1e3},
     };
     printf(
         "%zu temperatures, two thirds fitted, and as many entropies; the fullest sheet has %u states in %zu bytes.\n",

@@ -5,7 +5,7 @@
 static const double P0 = 1.0133e5, R0 = 1.292, E0 = 78408.4, T0 = 273.15, GASCON = 287.06;
 
 int tgas_band(double y) {
-    return y > -0.5 ? HIGH : y > -4.5 ? MIDDLE : LOW;
+    return y > MILLIONTHS(UPPER_EDGE) ? HIGH : y > MILLIONTHS(LOWER_EDGE) ? MIDDLE : LOW;
 }
 
 /* The listing's grouping of ten coefficients. */
@@ -24,16 +24,16 @@ static inline tgas_parts weighted(double a, double b, double exponent) {
 
 /* Labels 310 to 340. */
 static inline tgas_parts low_parts(double y, double z) {
-    if (z <= 0.95)
+    if (z <= MILLIONTHS(piece_end[LOW][0]))
         return single(BICUBIC(1.44824e-01, 1.36744e-02, 1.17099e-01, -8.22299e-02, -6.75303e-04, -1.47314e-03,
                               -7.90851e-05, 1.3937, 6.83066e-02, -6.65673e-01));
-    if (z <= 1.4)
+    if (z <= MILLIONTHS(piece_end[LOW][1]))
         return weighted(BICUBIC(-9.325, -9.32017e-01, 2.57176e01, 1.61292, -3.00242e-02, 2.62959e-02, -2.77651e-04,
                                 -2.1662e01, -6.81431e-01, 6.26962),
                         BICUBIC(-3.38534, 1.82594e-01, 1.84928e-01, -7.01109e-01, 1.10150e-02, -1.60570e-02,
                                 1.57701e-05, 5.4702, 4.11624e-01, -2.81498),
                         EXPONENT(-3.887015e01, -2.908228e01, 4.070557e01, 2.682347e01));
-    if (z <= 1.95)
+    if (z <= MILLIONTHS(piece_end[LOW][2]))
         return weighted(BICUBIC(-1.93082e01, -1.54557, 3.69035e01, 1.92214, -3.59027e-02, 2.31827e-02, -2.01327e-04,
                                 -2.20440e01, -5.80935e-01, 4.43367),
                         BICUBIC(-3.83069, 1.32864e-01, -3.91902, -6.79564e-01, 6.06341e-04, -8.12997e-03, -1.61012e-04,
@@ -48,16 +48,16 @@ static inline tgas_parts low_parts(double y, double z) {
 
 /* Labels 360 to 390. */
 static inline tgas_parts middle_parts(double y, double z) {
-    if (z <= 0.95)
+    if (z <= MILLIONTHS(piece_end[MIDDLE][0]))
         return single(BICUBIC(2.94996e-02, 7.24997e-03, 7.81783e-01, -3.27402e-02, 3.23357e-04, -9.69989e-04,
                               -8.93240e-06, 3.95198e-01, 2.92926e-02, -2.12182e-01));
-    if (z <= 1.4)
+    if (z <= MILLIONTHS(piece_end[MIDDLE][1]))
         return weighted(BICUBIC(-5.53324, -3.53749e-01, 1.63638e01, 5.87547e-01, -1.16081e-02, 7.99571e-03,
                                 -2.79316e-04, -1.41239e01, -2.35146e-01, 4.28891),
                         BICUBIC(9.07979, 1.01308, -2.29428e01, -1.52122, 3.78390e-02, -2.63115e-02, 5.46402e-04,
                                 1.95657e01, 5.73839e-01, -5.63057),
                         EXPONENT(7.619803e01, -1.501155e01, -6.770845e01, 1.273147e01));
-    if (z <= 2.0)
+    if (z <= MILLIONTHS(piece_end[MIDDLE][2]))
         return weighted(BICUBIC(-1.13598e01, -1.02049, 2.22793e01, 1.24038, -3.10771e-02, 1.92551e-02, -2.69140e-04,
                                 -1.31512e01, -3.62875e-01, 2.64544),
                         BICUBIC(8.72852, 1.27564, -1.79172e01, -1.52051, 4.91264e-02, -2.81731e-02, 5.23383e-04,
@@ -72,10 +72,10 @@ static inline tgas_parts middle_parts(double y, double z) {
 
 /* Labels 410 to 430. */
 static inline tgas_parts high_parts(double y, double z) {
-    if (z <= 0.95)
+    if (z <= MILLIONTHS(piece_end[HIGH][0]))
         return single(BICUBIC(-2.94081e-03, 5.73915e-04, 9.88883e-01, -3.71241e-03, 1.12387e-04, -3.76528e-04,
                               1.76192e-05, 2.86656e-02, 4.56059e-03, -1.99498e-02));
-    if (z <= 1.45)
+    if (z <= MILLIONTHS(piece_end[HIGH][1]))
         return weighted(BICUBIC(1.32396, 8.52771e-02, -3.24257, -2.00937e-01, 5.68146e-03, -6.85856e-03, 1.98366e-04,
                                 4.53823, 1.18123e-01, -1.6246),
                         BICUBIC(-5.26673e-01, -1.58691e-01, 2.61600, 3.16356e-01, -1.90755e-02, 1.70124e-02,
@@ -97,7 +97,7 @@ double tgas1_fit(tgas_parts parts) {
 }
 
 double tgas2_plain(int band, double y, double z) {
-    if (z <= 0.65)
+    if (z <= MILLIONTHS(PERFECT_ENTROPY_Z))
         return 6779.2004 + (2.5 * (z - 0.4) - y) * GASCON * 2.302585;
     if (band == LOW)
         return GASCON * BICUBIC(-9.91081e-01, -5.00277, 5.46521e01, 5.10144, 1.76206e-02, 2.12002e-02, 1.76358e-03,
@@ -116,17 +116,19 @@ static double join(int band, double y, double z, double edge, double half) {
 }
 
 double tgas2_joined(double y, double z) {
-    if (fabs(y + 4.5) < 2.5e-02)
-        return join(LOW, y, z, -4.5, 2.5e-02);
-    if (fabs(y + 0.5) < 0.5e-02)
-        return join(MIDDLE, y, z, -0.5, 0.5e-02);
+    const double lower = MILLIONTHS(LOWER_EDGE), lower_half = MILLIONTHS(LOWER_HALF);
+    const double upper = MILLIONTHS(UPPER_EDGE), upper_half = MILLIONTHS(UPPER_HALF);
+    if (fabs(y - lower) < lower_half)
+        return join(LOW, y, z, lower, lower_half);
+    if (fabs(y - upper) < upper_half)
+        return join(MIDDLE, y, z, upper, upper_half);
     return tgas2_plain(tgas_band(y), y, z);
 }
 
 double tgas1_temperature(uint64_t pressure, uint64_t density) {
     double p = (double)pressure * 1e-6, r = (double)density * 1e-11;
     double x = log10(p / P0), y = log10(r / R0), z = x - y;
-    if (z <= 0.25)
+    if (z <= MILLIONTHS(PERFECT_Z))
         return p / (GASCON * r);
     return pow(10, tgas1_fit(tgas1_parts(tgas_band(y), y, z))) * T0;
 }

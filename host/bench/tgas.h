@@ -5,8 +5,9 @@
 
 #include <stdint.h>
 
-/* Density bands, by y = log10 of the density ratio; an edge belongs to the lower band. */
-enum { LOW, MIDDLE, HIGH };
+#include "tools/limits.h"
+
+/* The density band of y = log10 of the density ratio. */
 int tgas_band(double y);
 
 /* A fitted piece at (y, z): GAS1 to GAS4, GAS5 to GAS8 and the exponent of GAS9; without weight, b and exponent are 0.

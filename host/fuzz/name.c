@@ -5,7 +5,7 @@
 #include <string.h>
 
 #include "bench/baseline.h"
-#include "tools/common.h"
+#include "tools/record.h"
 #include "guard.h"
 
 static guard input_guard, output_guard, name_guard;

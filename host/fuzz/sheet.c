@@ -13,7 +13,8 @@
 #include <string.h>
 
 #include "bench/baseline.h"
-#include "tools/common.h"
+#include "tools/record.h"
+#include "tools/limits.h"
 #include "guard.h"
 #include "judge.h"
 
@@ -52,10 +53,10 @@ static void repair_records(uint8_t *sheet, size_t n, unsigned options) {
         if (!(options & 4))
             continue;
         if (rest[0] == 1)
-            repair_range(rest + 1, 1, 100000000000000000u);
+            repair_range(rest + 1, LEAST_PRESSURE, MOST_PRESSURE);
         else
-            repair_range(rest + 1, 7840840, 1000000000000u);
-        repair_range(rest + 9, 12920, 129200000000000u);
+            repair_range(rest + 1, LEAST_ENERGY, MOST_ENERGY);
+        repair_range(rest + 9, LEAST_DENSITY, MOST_DENSITY);
     }
 }
 

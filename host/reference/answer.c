@@ -9,8 +9,6 @@
 #include "logarithm.h"
 #include "weight.h"
 
-static const int64_t HIGHEST_FIT = 19600000000;
-
 const char *answers_differ(const eas_answer *a, const eas_answer *b)
 {
     if (a->number != b->number)

@@ -18,6 +18,9 @@
 #define E_MIN UINT64_C(7840840)
 #define E_MAX UINT64_C(1000000000000)
 
+/* The largest G of a temperature that is shown; the least is 0. */
+#define HIGHEST_FIT INT64_C(19600000000)
+
 /* Null where the answer is allowed; else a short text that names what is wrong. Beyond each field's own rule this
  * checks the distances of demand 3 on accepted answers. */
 const char *judge_answer(uint8_t kind, uint64_t first, uint64_t second, const eas_answer *answer);

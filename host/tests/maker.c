@@ -212,7 +212,7 @@ static eas_answer shown(eas_answer a, int64_t value)
 static eas_answer fitted_temperature(eas_answer a)
 {
     density_strip strip;
-    int64_t limit = 19600000000 + (made == FIT_LIMIT_PASSED) - (made == FIT_LIMIT_EXCLUDED);
+    int64_t limit = HIGHEST_FIT + (made == FIT_LIMIT_PASSED) - (made == FIT_LIMIT_EXCLUDED);
     a.low = fit_at(a.y, a.z);
     a.carries |= EAS_CARRIES_LOW;
     if ((a.low.fit < 0 || a.low.fit > limit) && made != REFUSES_NEVER)

@@ -3,11 +3,12 @@
  * Each call runs on a thread that first fills the rest of its stack with marked bytes; the deepest byte that changed
  * tells the use, to within the caller's own frame. */
 #include <pthread.h>
+#include <stdio.h>
 #include <stdlib.h>
 #include <string.h>
 #include <sys/mman.h>
 
-#include "tools/common.h"
+#include "tools/record.h"
 
 enum { STACK = 1 << 20, MARK = 0xA7, MOST = 128 * 1024, OWN = 512, SHEETS = 5 };
 
@@ -114,20 +115,15 @@ static void add_record(sheet *s, unsigned index) {
                                       254529,       717361463316,  0,         1000000000000};
     static const uint64_t densities[] = {129200000000, 12920000000, 81520,       6475339058,
                                          4085660,      1,           40856600000, 129200000000000};
-    uint8_t *record = s->bytes + s->n;
+    uint8_t name[2];
     size_t length = index < 256 ? 1 : 2;
-    record[0] = (uint8_t)length;
-    put_number(record + 1, (int)length, index < 256 ? index : index - 256);
-    record[1 + length] = (uint8_t)(index / 64 % 2 + 1);
-    put_number(record + 2 + length, 8, firsts[index % 8]);
-    put_number(record + 10 + length, 8, densities[index / 8 % 8]);
-    s->n += 1 + length + 17;
-    put_number(s->bytes + 5, 2, index + 1);
+    put_number(name, (int)length, index < 256 ? index : index - 256);
+    s->n = append_record(s->bytes, s->n, name, length, (uint8_t)(index / 64 % 2 + 1), firsts[index % 8],
+                         densities[index / 8 % 8]);
 }
 
 static void fill(sheet *s, size_t most) {
-    memcpy(s->bytes, "EAS\0\1\0\0", HEAD);
-    s->n = HEAD;
+    s->n = put_head(s->bytes);
     for (unsigned index = 0; s->n + (index < 256 ? 19 : 20) <= most; index++)
         add_record(s, index);
 }

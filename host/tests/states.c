@@ -111,7 +111,7 @@ static void add_fit_limits(void)
     static const int64_t points[][2] = { { -2919599, 2589131 }, { -2856625, 2588004 }, { -1869428, 2563264 },
                                          { -1185631, 2536620 }, { -2903467, 2588847 }, { -1713843, 2557991 },
                                          { -577462, 2503565 },  { 1139227, 2454118 } };
-    const int64_t limit = 19600000000, stride = 20000;
+    const int64_t limit = HIGHEST_FIT, stride = 20000;
     for (int64_t y = -7000000; y <= 3000000; y += 250000) {
         for (int64_t z = 2000000; z < HIGHEST_Z; z += stride) {
             int64_t low = z, high = z + stride;
@@ -186,7 +186,7 @@ static air_state state_in_strip(random_source *r, uint8_t kind)
 static uint64_t any_size(random_source *r, uint64_t low, uint64_t high)
 {
     double from = log((double)low) - 0.05, to = log((double)high) + 0.05;
-    return (uint64_t)exp(from + (to - from) * (double)(random_bits(r) >> 11) / 9007199254740992.0);
+    return (uint64_t)exp(from + (to - from) * random_unit(r));
 }
 
 air_state random_state(random_source *r)

@@ -13,8 +13,8 @@
 #include <math.h>
 #include <string.h>
 
-#include "common.h"
 #include "bench/tgas.h"
+#include "common.h"
 
 #ifndef SAMPLES
 #define SAMPLES "samples"
@@ -207,7 +207,7 @@ static int run_sheet(const char *path) {
     static uint8_t sheet[SHEET_MOST + 1];
     size_t n;
     int failures = 0;
-    if (load_sheet("checklist", path, sheet, &n))
+    if (load_sheet(path, sheet, &n))
         return 1;
     for (int i = 0; i < CHECKS; i++)
         failures += run_check(path, sheet, n, &checks[i]);

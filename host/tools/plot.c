@@ -4,6 +4,7 @@
 #include <cairo-svg.h>
 #include <cairo.h>
 #include <math.h>
+#include <stdlib.h>
 #include <string.h>
 
 #include "common.h"
@@ -315,14 +316,14 @@ static void label_marks(const panel *p) {
 
 /* The blanks of one number, from y down; returns where the next text goes. */
 static double list_blanks(const panel *p, uint32_t number, double y) {
-    char text[64], name[32];
+    char text[128], name[32];
     unsigned left = 0;
     for (unsigned i = 0; i < item_count; i++)
         left += items[i].s.kind == p->kind && items[i].mark.blank == number;
     if (left == 0)
         return y;
     colour(p->cairo, p->red, p->green, p->blue);
-    snprintf(text, sizeof text, "%u  %s", number, refusal_text(number));
+    snprintf(text, sizeof text, "%u  %s", number, eas_reason(number));
     put_text(p->cairo, MARGIN, y, 0, 11, text);
     colour(p->cairo, 0.1, 0.1, 0.1);
     double last = p->bottom - 34 - 50 * (13 - number); /* leaves room for the numbers that follow */
@@ -467,7 +468,7 @@ int main(int argc, char **argv) {
         fprintf(stderr, "usage: plot SHEET OUT.svg [OUT.png]\n");
         return 2;
     }
-    if (load_sheet("plot", argv[1], sheet, &n))
+    if (load_sheet(argv[1], sheet, &n))
         return 1;
     gather(sheet, n);
     int failed = finish(cairo_svg_surface_create(argv[2], WIDTH, HEIGHT), argv[1], NULL);

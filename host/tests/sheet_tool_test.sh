@@ -1,0 +1,225 @@
+#!/bin/sh
+# sheet_tool_test.sh BUILD: sheet_tool on the texts that labs send, right and wrong ones.
+cd "$(dirname "$0")/.." || exit 1
+. tests/check.sh
+tool=$1/sheet_tool
+test -x "$tool" || { skip "sheet_tool was not built"; finish sheet_tool; }
+
+# text FORMAT: the text at hand, as printf writes it.
+text() {
+    printf "$1" > "$work/text.csv"
+}
+
+# packs TEXT: packing the text and unpacking it with spelled names gives the text's lines below the heading.
+packs() {
+    "$tool" pack -o "$work/sheet.eas" "$work/text.csv" && "$tool" unpack --spelled "$work/sheet.eas" > "$work/back" &&
+        tail -n +2 "$work/back" > "$work/lines" && printf "$1" | cmp - "$work/lines"
+}
+
+# right WHAT TEXT LINES: the text is packed without a message; unpacked it has these lines.
+right() {
+    text "$2"
+    expect "$1" packs "$3"
+    expect "$1: no message" test ! -s "$work/said"
+}
+
+# noted WHAT TEXT LINES NOTE: the text is packed with this note.
+noted() {
+    text "$2"
+    expect "$1" packs "$3"
+    expect "$1: the note" test "$(cat "$work/said")" = "sheet_tool: $work/text.csv: $4"
+}
+
+# wrong WHAT TEXT MESSAGE: the text is refused with this message and nothing is written.
+wrong() {
+    text "$2"
+    ends "$1" 1 "sheet_tool: $work/text.csv: $3" "$tool" pack "$work/text.csv"
+}
+
+whole='kind,first,density\n'
+si='name,pressure_Pa,density_kg_m3\n'
+both='name,pressure_Pa,energy_J_kg,density_kg_m3\n'
+
+# What spreadsheets and loggers write.
+right "plain" 'name,'$whole'a,1,2,3\n' 'a,1,2,3\n'
+right "byte-order mark" '\357\273\277'$si'a,1,1\n' 'a,1,1000000,100000000000\n'
+right "carriage returns" 'name,pressure_Pa,density_kg_m3\r\na,1,1\r\nb,2,1\r\n' \
+    'a,1,1000000,100000000000\nb,1,2000000,100000000000\n'
+right "carriage returns alone" 'name,pressure_Pa,density_kg_m3\ra,1,1\r' 'a,1,1000000,100000000000\n'
+right "no newline at the end" $si'a,1,1' 'a,1,1000000,100000000000\n'
+right "quoted fields" '"name","pressure_Pa","density_kg_m3"\n"a","1","1"\n' 'a,1,1000000,100000000000\n'
+right "a comma and quotes in a name" $si'"a, ""b""",1,1\n' 'a%%2C%%20%%22b%%22,1,1000000,100000000000\n'
+right "a newline in a name" $si'"a\nb",1,1\nc,1,1\n' 'a%%0Ab,1,1000000,100000000000\nc,1,1000000,100000000000\n'
+right "semicolons" 'name;pressure_Pa;density_kg_m3\na;1;1\n' 'a,1,1000000,100000000000\n'
+right "tabs" 'name\tpressure_Pa\tdensity_kg_m3\na\t1\t1\n' 'a,1,1000000,100000000000\n'
+right "blank lines and empty rows" $si'\na,1,1\n,,\n  \nb,1,1\n' \
+    'a,1,1000000,100000000000\nb,1,1000000,100000000000\n'
+right "empty fields behind the heading's" $si'a,1,1,,\n' 'a,1,1000000,100000000000\n'
+right "columns in another order" 'density_kg_m3,name,pressure_Pa\n1,a,2\n' 'a,1,2000000,100000000000\n'
+right "headings in capitals" 'Name,PRESSURE_PA,Density_kg_m3\na,2,1\n' 'a,1,2000000,100000000000\n'
+right "comments above the heading" '# a run\n\n# of today\n'$si'a,1,1\n' 'a,1,1000000,100000000000\n'
+right "comments below it, where names are spelled" 'spelled,'$whole'# x\na,1,2,3\n' 'a,1,2,3\n'
+noted "a column that is not read" 'name,remark,pressure_Pa,density_kg_m3\na,x,1,1\n' 'a,1,1000000,100000000000\n' \
+    "line 1: note: the column 'remark' is not read"
+noted "no states" $si '' 'note: there are no states below the heading'
+
+# Names.
+right "a slash and spaces" $si'nose/cap 1,1,1\n' 'nose%%2Fcap%%201,1,1000000,100000000000\n'
+right "spaces around a name do not count" $si'  a  ,1,1\n' 'a,1,1000000,100000000000\n'
+right "quoted spaces do" $si'" a ",1,1\n' '%%20a%%20,1,1000000,100000000000\n'
+right "UTF-8" $si'D\303\274se,1,1\n' 'D%%C3%%BCse,1,1000000,100000000000\n'
+right "bytes that are no UTF-8" $si'D\374se,1,1\n' 'D%%FCse,1,1000000,100000000000\n'
+right "a zero byte" $si'a\000b,1,1\n' 'a%%00b,1,1000000,100000000000\n'
+right "digits only: three names" $si'1,1,1\n01,1,1\n001,1,1\n' \
+    '1,1,1000000,100000000000\n01,1,1000000,100000000000\n001,1,1000000,100000000000\n'
+right "a name that begins with #" $si'#1,1,1\n' '%%231,1,1000000,100000000000\n'
+right "spelled in either case" 'spelled,'$whole'a%%2fb,1,2,3\n' 'a%%2Fb,1,2,3\n'
+right "raw or spelled" 'name,spelled,'$whole'a b,,1,2,3\n,a%%20c,1,2,3\n' 'a%%20b,1,2,3\na%%20c,1,2,3\n'
+noted "a raw name in percent form" $si'a%%2Fb,1,1\n' 'a%%252Fb,1,1000000,100000000000\n' \
+    "line 2: note: 'a%2Fb' is taken as it stands; names in percent form belong in a column 'spelled'"
+right "a percent sign that is no form" $si'50%%,1,1\n' '50%%25,1,1000000,100000000000\n'
+forty=0123456789012345678901234567890123456789
+right "forty bytes" $si$forty',1,1\n' $forty',1,1000000,100000000000\n'
+
+# Kinds and numbers.
+right "the kind by its columns" $both'a,1,,1\nb,,1,1\n' 'a,1,1000000,100000000000\nb,2,1000,100000000000\n'
+right "the kind in words" 'name,kind,pressure_Pa,energy_J_kg,density_kg_m3\na,entropy,1,1,1\nb,Temperature,1,1,1\n' \
+    'a,2,1000,100000000000\nb,1,1000000,100000000000\n'
+right "whole units and SI" 'name,kind,first,density_kg_m3\na,1,7,1\n' 'a,1,7,100000000000\n'
+right "decimals and exponents" $si'a,101330.5,1.292\nb,1.0133e5,1292E-3\nc,+.5,12.92e-1\nd,1e-6,0.00000000001\n' \
+    'a,1,101330500000,129200000000\nb,1,101330000000,129200000000\nc,1,500000,129200000000\nd,1,1,1\n'
+right "zeros that say nothing" $si'a,0001.50000000000000000000,100000000000000000000e-20\n' \
+    'a,1,1500000,100000000000\n'
+right "nothing and the most" 'name,'$whole'a,1,0,18446744073709551615\n' 'a,1,0,18446744073709551615\n'
+right "the most in SI" $si'a,18446744073709.551615,184467440.73709551615\n' \
+    'a,1,18446744073709551615,18446744073709551615\n'
+
+# Wrong texts.
+wrong "empty" '' 'empty: a heading and states are wanted'
+wrong "blank" '\n \n# x\n' 'empty: a heading and states are wanted'
+wrong "UTF-16" '\377\376n\000' 'the text is UTF-16; save it as UTF-8'
+wrong "no heading" 'a,1,2,3\n' \
+    "line 1: no heading: the first row needs a column 'name', or 'spelled' for names in percent form"
+wrong "no values" 'name,pressure_kPa\na,1\n' "line 1: no columns for a state: pressure_Pa with density_kg_m3, or \
+energy_J_kg with density_kg_m3, or kind, first and density in whole units"
+wrong "a heading twice" 'name,name,pressure_Pa,density_kg_m3\n' "line 1: the heading 'name' stands twice"
+wrong "an open quote" $si'a,1,1\n"b,1,1\n' 'line 3: a quoted field has no end'
+wrong "a quote inside a field" $si'a"b,1,1\n' 'line 2: no CSV: error parsing data while strict checking enabled'
+wrong "too many fields" $si'a,1,1,292\n' 'line 2: 4 fields where the heading has 3'
+wrong "no name" $si',1,1\n' 'line 2: refusal 8: the name has no bytes or over 40: it is empty'
+wrong "a long name" $si$forty'x,1,1\n' \
+    "line 2: refusal 8: the name has no bytes or over 40: '${forty}x' has 41"
+wrong "a wrong spelling" 'spelled,'$whole'a%%2,1,2,3\n' \
+    "line 2: refusal 7: a byte or a percent form of the spelled name is wrong: 'a%2'"
+wrong "a space in a spelling" 'spelled,'$whole'a b,1,2,3\n' \
+    "line 2: refusal 7: a byte or a percent form of the spelled name is wrong: 'a b'"
+wrong "raw and spelled" 'name,spelled,'$whole'a,a,1,2,3\n' 'line 2: both a name and a spelled name are given'
+wrong "a name twice" $si'a b,1,1\nc,1,1\n"a b",1,1\n' \
+    'line 4: refusal 16: the name was seen earlier in the sheet, on line 2'
+wrong "an unknown kind" 'name,'$whole'a,3,2,3\n' "line 2: refusal 6: the kind is unknown: '3'"
+wrong "a kind of 257" 'name,'$whole'a,257,2,3\n' "line 2: refusal 6: the kind is unknown: '257'"
+wrong "two kinds" $both'a,1,1,1\n' \
+    "line 2: values of two kinds (pressure_Pa and energy_J_kg): a column 'kind' must say which is meant"
+wrong "no first value" $both'a,,,1\n' \
+    'line 2: no kind, and not pressure_Pa with density_kg_m3, or energy_J_kg with density_kg_m3'
+wrong "the kind's value is missing" 'name,kind,pressure_Pa,density_kg_m3\na,2,1,1\n' 'line 2: the energy is missing'
+wrong "a density twice" 'name,pressure_Pa,density,density_kg_m3\na,1,1,1\n' \
+    'line 2: the density is given twice, in density_kg_m3 and in density'
+decimal='is no decimal number from 0 up, with a point before its decimals'
+wrong "a word" $si'a,x,1\n' "line 2: pressure_Pa: 'x' $decimal"
+wrong "a negative number" $si'a,-1,1\n' "line 2: pressure_Pa: '-1' $decimal"
+wrong "a decimal comma" $si'a,"1,5",1\n' "line 2: pressure_Pa: '1,5' $decimal"
+wrong "a space in a number" $si'a,1 000,1\n' "line 2: pressure_Pa: '1 000' $decimal"
+wrong "an exponent without digits" $si'a,1e,1\n' "line 2: pressure_Pa: '1e' $decimal"
+wrong "two points" $si'a,1.2.3,1\n' "line 2: pressure_Pa: '1.2.3' $decimal"
+wrong "a point alone" $si'a,.,1\n' "line 2: pressure_Pa: '.' $decimal"
+wrong "a hexadecimal number" $si'a,0x10,1\n' "line 2: pressure_Pa: '0x10' $decimal"
+wrong "a number that is none" $si'a,nan,1\n' "line 2: pressure_Pa: 'nan' $decimal"
+wrong "too fine a pressure" $si'a,1.0000001,1\n' \
+    "line 2: pressure_Pa: '1.0000001' has more digits than the unit of 1e-6 Pa holds"
+wrong "too fine a density" $si'a,1,1e-12\n' \
+    "line 2: density_kg_m3: '1e-12' has more digits than the unit of 1e-11 kg/m³ holds"
+wrong "a fraction of a unit" 'name,'$whole'a,1,2.5,3\n' \
+    "line 2: first: '2.5' has more digits than the unit of 1e-6 Pa holds"
+wrong "too large" 'name,'$whole'a,1,18446744073709551616,3\n' \
+    "line 2: first: '18446744073709551616' is over 18446744073709551615"
+wrong "far too large" $si'a,1e999999999999999999999,1\n' \
+    "line 2: pressure_Pa: '1e999999999999999999999' is over 18446744073709.551615"
+text "name,${whole}"'a,1,x,3\nb,9,2,3\n'
+ends "every wrong line is told" 1 "sheet_tool: standard input: line 2: first: 'x' $decimal
+sheet_tool: standard input: line 3: refusal 6: the kind is unknown: '9'" "$tool" pack < "$work/text.csv"
+
+# 2,978 records of 22 bytes fit into a sheet; one more does not.
+fills() {
+    { echo name,kind,first,density; seq 1000 3977 | sed 's/$/,1,1,1/'; } > "$work/text.csv"
+    "$tool" pack < "$work/text.csv" > "$work/full.eas" && test "$(wc -c < "$work/full.eas")" -eq 65523
+}
+expect "the fullest sheet" fills
+echo 3978,1,1,1 >> "$work/text.csv"
+ends "one state more" 1 "sheet_tool: standard input: line 2980: refusal 1: the sheet is over 65,536 bytes" \
+    "$tool" pack < "$work/text.csv"
+
+# Sheets that are none.
+sheet() {
+    printf "$2" > "$work/wrong.eas"
+    ends "$1" 1 "sheet_tool: $work/wrong.eas: $3" "$tool" unpack "$work/wrong.eas"
+}
+record='\001a\001\0\0\0\0\0\0\0\001\0\0\0\0\0\0\0\001'
+sheet "an empty file is no sheet" '' "refusal 2: not a sheet: under 7 bytes, or it does not begin with EAS"
+sheet "a text is no sheet" 'name,kind\n' "refusal 2: not a sheet: under 7 bytes, or it does not begin with EAS"
+sheet "version 2" 'EAS\0\002\0\0' "refusal 3: the sheet's version is not 1"
+cut="refusal 4: bytes are missing from a record, or left over after the last"
+sheet "a missing record" "EAS\\0\\001\\0\\002$record" "record 2: $cut"
+sheet "bytes left over" "EAS\\0\\001\\0\\001${record}x" "after record 1: $cut"
+sheet "an empty name" 'EAS\0\001\0\001\0\001\0\0\0\0\0\0\0\001\0\0\0\0\0\0\0\001' \
+    "record 1: refusal 5: a record's name has no bytes or over 40"
+sheet "a repeated name" "EAS\\0\\001\\0\\002$record$record" \
+    "record 2: refusal 16: the name was seen earlier in the sheet"
+
+# Files.
+no_file='No such file or directory'
+ends "a missing text" 1 "sheet_tool: $work/none.csv: $no_file" "$tool" pack "$work/none.csv"
+ends "a missing sheet" 1 "sheet_tool: $work/none.eas: $no_file" "$tool" unpack "$work/none.eas"
+ends "a folder as text" 1 "sheet_tool: $work: Is a directory" "$tool" pack "$work"
+ends "a folder as sheet" 1 "sheet_tool: $work: Is a directory" "$tool" unpack "$work"
+ends "no such folder for the output" 1 "sheet_tool: $work/none/x.eas: $no_file" \
+    "$tool" unpack -o "$work/none/x.eas" samples/sample.eas
+ends "a folder as output" 1 "sheet_tool: $work: Is a directory" "$tool" unpack -o "$work" samples/sample.eas
+ends "a full disk" 1 "sheet_tool: /dev/full: No space left on device" "$tool" unpack -o /dev/full samples/sample.eas
+full_disk() {
+    "$tool" pack samples/sample.csv > /dev/full 2> "$work/message"
+    test $? -eq 1 && test "$(cat "$work/message")" = "sheet_tool: standard output: No space left on device"
+}
+expect "a full disk behind standard output" full_disk
+
+# Options.
+try="
+Try 'sheet_tool --help'."
+ends "no word" 2 "sheet_tool: pack or unpack must be said$try" "$tool"
+ends "a wrong word" 2 "sheet_tool: 'pakc' is neither pack nor unpack$try" "$tool" pakc
+ends "two files" 2 "sheet_tool: one file at a time: b is too much$try" "$tool" pack a b
+ends "an unknown option" 2 "sheet_tool: unrecognized option '--sj'$try" "$tool" unpack --sj
+ends "an option without its value" 2 "sheet_tool: option requires an argument -- 'o'$try" "$tool" unpack -o
+ends "an option of the other word" 2 "sheet_tool: --si and --spelled belong to unpack$try" "$tool" pack --si
+
+# Round trips of the samples: as they are, in SI units, with names as text.
+same() {
+    "$tool" unpack $1 "$2" | "$tool" pack > "$work/again.eas" && cmp "$work/again.eas" "$2"
+}
+stored() {
+    "$tool" pack "samples/$1.csv" | cmp - "samples/$1.eas"
+}
+for sample in sample slash-and-space digits-only; do
+    expect "$sample.csv packs to the stored sheet" stored $sample
+    for options in "" --si --spelled "--si --spelled"; do
+        expect "$sample.eas comes back after unpack $options" same "$options" samples/$sample.eas
+    done
+done
+odd='name,spelled,kind,first,density\n" x ",,1,1,1\n"a,b",,1,1,1\n"q""q",,2,1,1\n"#1",,1,1,1\n,%%00,1,1,1\n,a%%0Ab,2,1,1\n,%%FF,1,1,1\nD\303\274se,,1,1,1\n"a;b",,1,1,1\n'
+text "$odd"
+odd_names() {
+    "$tool" pack "$work/text.csv" > "$work/odd.eas" && "$tool" unpack "$work/odd.eas" | cmp - "$work/text.csv" &&
+        same "" "$work/odd.eas" && same --si "$work/odd.eas" && same --spelled "$work/odd.eas"
+}
+expect "odd names come back, those that are no text spelled" odd_names
+finish sheet_tool

@@ -1,0 +1,22 @@
+/* Decimal numbers as whole numbers of a unit, exactly: no value passes through floating point. */
+#ifndef DECIMAL_H
+#define DECIMAL_H
+
+#include <stddef.h>
+#include <stdint.h>
+
+typedef enum {
+    DECIMAL_READ,
+    DECIMAL_WRONG,    /* not digits with at most one point and an exponent */
+    DECIMAL_TOO_FINE, /* more digits than the unit holds */
+    DECIMAL_TOO_LARGE /* not below 2^64 units */
+} decimal_verdict;
+
+/* Reads "101330", "1.292", ".5", "2.5e-3" in a unit of 10^-decimals. */
+decimal_verdict read_decimal(const char *text, size_t n, unsigned decimals, uint64_t *units);
+
+/* Writes a number of units as the shortest decimal that reads back to it; the room is DECIMAL_ROOM bytes. */
+enum { DECIMAL_ROOM = 32 };
+void write_decimal(char out[DECIMAL_ROOM], uint64_t units, unsigned decimals);
+
+#endif

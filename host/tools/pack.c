@@ -1,0 +1,346 @@
+/* Method: each row of the text becomes a record behind the sheet so far, and the library judges its name there. */
+#include "pack.h"
+
+#include <stdarg.h>
+#include <stdlib.h>
+#include <string.h>
+#include <strings.h>
+
+#include "common.h"
+#include "decimal.h"
+#include "kinds.h"
+#include "options.h"
+#include "rows.h"
+#include "utf8.h"
+
+enum { COLUMNS = FIRST_GIVEN + GIVEN_COUNT, SHOWN = 60, TEXT_MOST = 1 << 26 };
+
+const char *const headings[FIRST_GIVEN] = {"name", "spelled", "kind", "first", "density"};
+
+/* The sheet so far, with the line of each record, and where each column stands: its place plus 1, or 0. */
+typedef struct {
+    const char *input;
+    row_taker taker;
+    bool has_heading, is_full;
+    unsigned long wrong;
+    size_t width, column[COLUMNS];
+    uint8_t bytes[SHEET_MOST];
+    size_t n;
+    size_t start[RECORDS_MOST];
+    unsigned long line[RECORDS_MOST];
+} packing;
+
+/* A record before it is appended. */
+typedef struct {
+    uint8_t name[NAME_MOST];
+    size_t length;
+    const kind_row *kind;
+    uint64_t first, second;
+} entry;
+
+/* Tells what is wrong with a row; the text is not packed then. Gives false. */
+__attribute__((format(printf, 3, 4))) static bool wrong(packing *p, const row *r, const char *format, ...) {
+    char text[512];
+    va_list values;
+    va_start(values, format);
+    vsnprintf(text, sizeof text, format, values);
+    va_end(values);
+    refuse("%s: line %lu: %s", p->input, r->line, text);
+    p->wrong++;
+    return false;
+}
+
+static bool wrong_by(packing *p, const row *r, uint32_t number) {
+    return wrong(p, r, "refusal %u: %s", number, eas_reason(number));
+}
+
+/* A field for a message: about SHOWN bytes, those that cannot be shown as question marks. */
+static const char *shown(field f) {
+    static char text[SHOWN + 8];
+    size_t used = 0;
+    while (used < f.length && used < SHOWN) {
+        const uint8_t *at = (const uint8_t *)f.text + used;
+        size_t length = utf8_first(at, f.length - used).length;
+        length = length > 0 ? length : 1;
+        if (is_text(at, length))
+            memcpy(text + used, at, length);
+        else
+            memset(text + used, '?', length);
+        used += length;
+    }
+    strcpy(text + used, used < f.length ? "…" : "");
+    return text;
+}
+
+static bool equals(field f, const char *word) {
+    return f.length == strlen(word) && !strncasecmp(f.text, word, f.length);
+}
+
+static const char *heading_of(int column) {
+    return column < FIRST_GIVEN ? headings[column] : given[column - FIRST_GIVEN]->heading;
+}
+
+/* The column with a heading, or COLUMNS. */
+static int column_called(field f) {
+    int column = 0;
+    while (column < COLUMNS && !equals(f, heading_of(column)))
+        column++;
+    return column;
+}
+
+static int column_given(const quantity *q) {
+    int i = 0;
+    while (given[i] != q)
+        i++;
+    return FIRST_GIVEN + i;
+}
+
+/* The field of a column; empty where the text or the row has none. */
+static field cell(const packing *p, const row *r, int column) {
+    size_t at = p->column[column];
+    return at > 0 && at <= r->count ? r->fields[at - 1] : (field){"", 0};
+}
+
+static bool is_blank(const row *r) {
+    for (size_t i = 0; i < r->count; i++)
+        if (r->fields[i].length > 0)
+            return false;
+    return true;
+}
+
+/* Whether some kind can be given in full by the text's columns. */
+static bool has_values(const packing *p) {
+    if (p->column[KIND] && p->column[FIRST] && p->column[SECOND])
+        return true;
+    for (int i = 0; i < KIND_COUNT; i++)
+        if ((p->column[column_given(kinds[i].first)] || (p->column[KIND] && p->column[FIRST])) &&
+            (p->column[column_given(kinds[i].second)] || p->column[SECOND]))
+            return true;
+    return false;
+}
+
+/* The columns that each kind needs, for messages. */
+static const char *wanted_columns(void) {
+    static char text[256];
+    size_t used = 0;
+    for (int i = 0; i < KIND_COUNT && used < sizeof text; i++)
+        used += (size_t)snprintf(text + used, sizeof text - used, "%s%s with %s", i > 0 ? ", or " : "",
+                                 kinds[i].first->heading, kinds[i].second->heading);
+    return text;
+}
+
+static void note_unread(const packing *p, const row *r, field f) {
+    refuse("%s: line %lu: note: the column '%s' is not read", p->input, r->line, shown(f));
+}
+
+static void take_heading(packing *p, const row *r) {
+    p->width = r->count;
+    for (size_t i = 0; i < r->count; i++) {
+        int column = column_called(r->fields[i]);
+        if (column < COLUMNS && p->column[column])
+            wrong(p, r, "the heading '%s' stands twice", shown(r->fields[i]));
+        else if (column < COLUMNS)
+            p->column[column] = i + 1;
+    }
+    if (!p->column[NAME] && !p->column[SPELLED])
+        wrong(p, r, "no heading: the first row needs a column 'name', or 'spelled' for names in percent form");
+    else if (!has_values(p))
+        wrong(p, r, "no columns for a state: %s, or kind, first and density in whole units", wanted_columns());
+    for (size_t i = 0; i < r->count && !p->wrong; i++)
+        if (r->fields[i].length > 0 && column_called(r->fields[i]) == COLUMNS)
+            note_unread(p, r, r->fields[i]);
+    p->has_heading = true;
+    p->is_full = p->wrong > 0;
+    p->taker.comments = !p->column[NAME]; /* no spelled name begins with # */
+}
+
+/* A raw name that could be a spelled one is taken as it stands, but told. */
+static void note_spelled(const packing *p, const row *r, field f) {
+    uint8_t name[NAME_MOST];
+    if (memchr(f.text, '%', f.length) && !read_spelled((const uint8_t *)f.text, f.length, name).number)
+        refuse("%s: line %lu: note: '%s' is taken as it stands; names in percent form belong in a column 'spelled'",
+               p->input, r->line, shown(f));
+}
+
+static bool read_entry_name(packing *p, const row *r, entry *e) {
+    field raw = cell(p, r, NAME), spelled = cell(p, r, SPELLED);
+    if (raw.length > 0 && spelled.length > 0)
+        return wrong(p, r, "both a name and a spelled name are given");
+    if (spelled.length > 0) {
+        eas_text read = read_spelled((const uint8_t *)spelled.text, spelled.length, e->name);
+        e->length = read.length;
+        return read.number ? wrong(p, r, "refusal %u: %s: '%s'", read.number, eas_reason(read.number), shown(spelled))
+                           : true;
+    }
+    if (raw.length == 0)
+        return wrong(p, r, "refusal %u: %s: it is empty", EAS_NAME_LENGTH, eas_reason(EAS_NAME_LENGTH));
+    if (raw.length > NAME_MOST)
+        return wrong(p, r, "refusal %u: %s: '%s' has %zu", EAS_NAME_LENGTH, eas_reason(EAS_NAME_LENGTH), shown(raw),
+                     raw.length);
+    note_spelled(p, r, raw);
+    e->length = raw.length;
+    memcpy(e->name, raw.text, raw.length);
+    return true;
+}
+
+/* The kind that a field names, by its number or by what is wanted. */
+static const kind_row *named_kind(field f) {
+    uint64_t number;
+    if (read_decimal(f.text, f.length, 0, &number) == DECIMAL_READ)
+        return kind_of(number);
+    for (int i = 0; i < KIND_COUNT; i++)
+        if (equals(f, kinds[i].wanted->name))
+            return &kinds[i];
+    return NULL;
+}
+
+static bool has_both(const packing *p, const row *r, const kind_row *kind) {
+    return cell(p, r, column_given(kind->first)).length > 0 &&
+           (cell(p, r, column_given(kind->second)).length > 0 || cell(p, r, SECOND).length > 0);
+}
+
+/* The first kind whose values the row has, where it has not those of two. */
+static bool derive_kind(packing *p, const row *r, entry *e) {
+    for (int i = 0; i < KIND_COUNT; i++) {
+        const kind_row *kind = &kinds[i];
+        if (!has_both(p, r, kind))
+            continue;
+        if (e->kind && (e->kind->first != kind->first || e->kind->second != kind->second))
+            return wrong(p, r, "values of two kinds (%s and %s): a column 'kind' must say which is meant",
+                         e->kind->first->heading, kind->first->heading);
+        e->kind = e->kind ? e->kind : kind;
+    }
+    return e->kind ? true : wrong(p, r, "no kind, and not %s", wanted_columns());
+}
+
+static bool read_entry_kind(packing *p, const row *r, entry *e) {
+    field f = cell(p, r, KIND);
+    e->kind = NULL;
+    if (f.length == 0)
+        return derive_kind(p, r, e);
+    e->kind = named_kind(f);
+    if (!e->kind)
+        return wrong(p, r, "refusal %u: %s: '%s'", EAS_KIND_UNKNOWN, eas_reason(EAS_KIND_UNKNOWN), shown(f));
+    return true;
+}
+
+/* Reads a quantity from its SI column or, in whole units, from the other. */
+static bool read_value(packing *p, const row *r, const quantity *q, int whole, uint64_t *units) {
+    field si = cell(p, r, column_given(q)), units_field = cell(p, r, whole);
+    if (si.length > 0 && units_field.length > 0)
+        return wrong(p, r, "the %s is given twice, in %s and in %s", q->name, q->heading, headings[whole]);
+    if (si.length == 0 && units_field.length == 0)
+        return wrong(p, r, "the %s is missing", q->name);
+    bool is_si = si.length > 0;
+    field f = is_si ? si : units_field;
+    const char *column = is_si ? q->heading : headings[whole];
+    char most[DECIMAL_ROOM];
+    switch (read_decimal(f.text, f.length, is_si ? q->decimals : 0, units)) {
+    case DECIMAL_READ:
+        return true;
+    case DECIMAL_WRONG:
+        return wrong(p, r, "%s: '%s' is no decimal number from 0 up, with a point before its decimals", column,
+                     shown(f));
+    case DECIMAL_TOO_FINE:
+        return wrong(p, r, "%s: '%s' has more digits than the unit of 1e-%u %s holds", column, shown(f), q->decimals,
+                     q->unit);
+    default:
+        write_decimal(most, UINT64_MAX, is_si ? q->decimals : 0);
+        return wrong(p, r, "%s: '%s' is over %s", column, shown(f), most);
+    }
+}
+
+/* Looks the name up in the sheet so far. */
+static bool is_new(packing *p, const row *r, const entry *e) {
+    uint8_t spelled[SPELLED_MOST];
+    size_t length = eas_spell(e->name, e->length, spelled, sizeof spelled).length;
+    eas_record found = eas_find(p->bytes, p->n, spelled, length);
+    if (found.number == EAS_NAME_ABSENT)
+        return true;
+    unsigned i = 0;
+    while (i + 1 < record_count(p->bytes) && p->start[i] != found.start)
+        i++;
+    return wrong(p, r, "refusal %u: %s, on line %lu", EAS_NAME_REPEATED, eas_reason(EAS_NAME_REPEATED), p->line[i]);
+}
+
+static bool fits(packing *p, const row *r, const entry *e) {
+    if (p->n + 1 + e->length + RECORD_REST <= SHEET_MOST)
+        return true;
+    p->is_full = true;
+    return wrong_by(p, r, EAS_SHEET_TOO_LONG);
+}
+
+static void take_state(packing *p, const row *r) {
+    entry e = {.length = 0};
+    for (size_t i = p->width; i < r->count; i++)
+        if (r->fields[i].length > 0) {
+            wrong(p, r, "%zu fields where the heading has %zu", r->count, p->width);
+            return;
+        }
+    if (!read_entry_name(p, r, &e) || !read_entry_kind(p, r, &e) || !read_value(p, r, e.kind->first, FIRST, &e.first) ||
+        !read_value(p, r, e.kind->second, SECOND, &e.second) || !is_new(p, r, &e) || !fits(p, r, &e))
+        return;
+    unsigned count = record_count(p->bytes);
+    p->start[count] = p->n + 1;
+    p->line[count] = r->line;
+    p->n = append_record(p->bytes, p->n, e.name, e.length, e.kind->kind, e.first, e.second);
+}
+
+/* After a heading that cannot be used, and after the sheet is full, rows are passed over. */
+static void take(void *data, const row *r) {
+    packing *p = data;
+    if (is_blank(r) || p->is_full)
+        return;
+    if (p->has_heading)
+        take_state(p, r);
+    else
+        take_heading(p, r);
+}
+
+/* Reads a whole file; null where it cannot be read or is too large. */
+static char *slurp(const char *path, size_t *n) {
+    FILE *file = open_input(path);
+    char *text = NULL, *larger;
+    size_t room = 0, got = 1;
+    for (*n = 0; file && got > 0 && *n <= TEXT_MOST; *n += got) {
+        room = *n + 65536;
+        larger = realloc(text, room);
+        if (!larger)
+            break;
+        text = larger;
+        got = fread(text + *n, 1, room - *n, file);
+    }
+    bool failed = !file || got > 0 || ferror(file);
+    if (file && ferror(file))
+        refuse_file(input_name(path));
+    else if (file && got > 0)
+        refuse("%s: too large for a sheet", input_name(path));
+    if (file && file != stdin)
+        fclose(file);
+    if (failed)
+        free(text);
+    return failed ? NULL : text;
+}
+
+int pack(const char *input, const char *output) {
+    static packing p;
+    size_t n;
+    char *text = slurp(input, &n);
+    if (!text)
+        return REFUSED;
+    p.input = input_name(input);
+    p.n = put_head(p.bytes);
+    p.taker = (row_taker){take, &p, true};
+    int failed = read_rows(p.input, text, n, &p.taker);
+    free(text);
+    if (failed || p.wrong)
+        return REFUSED;
+    if (!p.has_heading)
+        return refuse("%s: empty: a heading and states are wanted", p.input);
+    if (record_count(p.bytes) == 0)
+        refuse("%s: note: there are no states below the heading", p.input);
+    uint32_t number = eas_check(p.bytes, p.n);
+    if (number)
+        return refuse("%s: refusal %u: %s", p.input, number, eas_reason(number));
+    return write_output(output, p.bytes, p.n);
+}

@@ -1,0 +1,134 @@
+#include <csv.h>
+#include <inttypes.h>
+#include <stdlib.h>
+#include <string.h>
+
+#include "common.h"
+#include "decimal.h"
+#include "kinds.h"
+#include "options.h"
+#include "pack.h"
+#include "utf8.h"
+
+/* What columns a text has. */
+typedef struct {
+    bool names, spelled, si;
+} layout;
+
+/* Whether the record at *at ends within the sheet; if so, *at moves past it. */
+static bool pass_record(const uint8_t *sheet, size_t n, size_t *at) {
+    size_t length = *at < n ? sheet[*at] : 0;
+    if (length == 0 || length > NAME_MOST || n - *at < 1 + length + RECORD_REST)
+        return false;
+    *at += 1 + length + RECORD_REST;
+    return true;
+}
+
+/* Tells where the sheet is refused, by checking it cut after each record in turn. */
+static int refuse_sheet(const char *input, uint8_t *sheet, size_t n, uint32_t number) {
+    char place[40] = "";
+    unsigned count = number > EAS_VERSION_UNKNOWN ? record_count(sheet) : 0;
+    size_t at = HEAD;
+    if (number > EAS_VERSION_UNKNOWN)
+        snprintf(place, sizeof place, "after record %u: ", count);
+    for (unsigned record = 1; record <= count; record++) {
+        bool whole = pass_record(sheet, n, &at);
+        put_number(sheet + 5, 2, record);
+        if (whole && !eas_check(sheet, at))
+            continue;
+        snprintf(place, sizeof place, "record %u: ", record);
+        break;
+    }
+    return refuse("%s: %srefusal %u: %s", input, place, number, eas_reason(number));
+}
+
+/* A name that is text stands in the column `name`, any other in `spelled`. */
+static bool is_raw(const state *s, layout l) {
+    return l.names && is_text(s->name, s->length);
+}
+
+static layout layout_of(const uint8_t *sheet, bool si, bool spelled) {
+    layout l = {.names = !spelled, .spelled = spelled, .si = si};
+    size_t at = HEAD;
+    for (unsigned left = record_count(sheet); left > 0; left--) {
+        state s = next_state(sheet, &at);
+        l.spelled |= !is_raw(&s, l);
+    }
+    return l;
+}
+
+static void write_heading(FILE *out, layout l) {
+    fprintf(out, "%s%s%s,%s", l.names ? headings[NAME] : "", l.names && l.spelled ? "," : "",
+            l.spelled ? headings[SPELLED] : "", headings[KIND]);
+    for (int i = 0; l.si && i < GIVEN_COUNT; i++)
+        fprintf(out, ",%s", given[i]->heading);
+    if (!l.si)
+        fprintf(out, ",%s,%s", headings[FIRST], headings[SECOND]);
+    fputc('\n', out);
+}
+
+/* Quoted only where it must be: a quote, a delimiter, a space at an end, or a # at the start. */
+static void write_name(FILE *out, const uint8_t *name, size_t n) {
+    bool plain = name[0] != ' ' && name[n - 1] != ' ' && name[0] != '#';
+    for (size_t i = 0; i < n; i++)
+        plain = plain && !strchr(",;\"", name[i]);
+    if (plain)
+        fwrite(name, 1, n, out);
+    else
+        csv_fwrite(out, name, n);
+}
+
+/* A kind that the tool does not know cannot stand in an accepted sheet that the library of the same version took. */
+static void write_values(FILE *out, const state *s, layout l) {
+    const kind_row *kind = kind_of(s->kind);
+    if (!l.si || !kind) {
+        fprintf(out, ",%" PRIu64 ",%" PRIu64, s->first, s->second);
+        return;
+    }
+    for (int i = 0; i < GIVEN_COUNT; i++) {
+        char text[DECIMAL_ROOM] = "";
+        if (given[i] == kind->first)
+            write_decimal(text, s->first, kind->first->decimals);
+        if (given[i] == kind->second)
+            write_decimal(text, s->second, kind->second->decimals);
+        fprintf(out, ",%s", text);
+    }
+}
+
+static void write_state(FILE *out, const state *s, layout l) {
+    bool raw = is_raw(s, l);
+    if (raw)
+        write_name(out, s->name, s->length);
+    if (l.names && l.spelled)
+        fputc(',', out);
+    if (!raw)
+        fputs(s->spelled, out);
+    fprintf(out, ",%u", s->kind);
+    write_values(out, s, l);
+    fputc('\n', out);
+}
+
+int unpack(const char *input, const char *output, bool si, bool spelled) {
+    static uint8_t sheet[SHEET_MOST + 1];
+    size_t n, length, at = HEAD;
+    char *text;
+    if (load_bytes(input, sheet, &n))
+        return REFUSED;
+    uint32_t number = eas_check(sheet, n);
+    if (number)
+        return refuse_sheet(input_name(input), sheet, n, number);
+    layout l = layout_of(sheet, si, spelled);
+    FILE *out = open_memstream(&text, &length);
+    if (!out)
+        return refuse_file(output_name(output));
+    write_heading(out, l);
+    for (unsigned left = record_count(sheet); left > 0; left--) {
+        state s = next_state(sheet, &at);
+        write_state(out, &s, l);
+    }
+    if (fclose(out))
+        return refuse_file(output_name(output));
+    int failed = write_output(output, text, length);
+    free(text);
+    return failed;
+}
