@@ -1,6 +1,7 @@
 #include "common.h"
 
 #include <errno.h>
+#include <stdbool.h>
 #include <string.h>
 
 #include "options.h"
@@ -32,11 +33,11 @@ int write_output(const char *path, const void *bytes, size_t n) {
     FILE *file = is_standard(path) ? stdout : fopen(path, "wb");
     if (!file)
         return refuse_file(path);
-    int lost = fwrite(bytes, 1, n, file) != n || fflush(file) != 0;
+    bool lost = fwrite(bytes, 1, n, file) != n || fflush(file) != 0;
     if (lost)
         refuse_file(output_name(path));
     if (file != stdout && fclose(file) != 0 && !lost)
-        lost = refuse_file(path);
+        return refuse_file(path);
     return lost ? REFUSED : DONE;
 }
 

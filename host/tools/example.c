@@ -1,14 +1,20 @@
 /* example SHEET NAME...: a host program. It loads a sheet, searches each spelled name, asks for its plot mark and its
  * listing line, and prints what it got. */
+#include <errno.h>
 #include <stdio.h>
+#include <string.h>
 
 #include <airstate.h>
 
-static uint8_t sheet[65537]; /* one byte more than the largest sheet, so that a longer file is refused */
+#if !EAS_VERSION_AT_LEAST(1, 0, 0)
+#error "this program needs airstate 1.0.0 or later"
+#endif
+
+static uint8_t sheet[EAS_SHEET_ROOM + 1]; /* one byte more than the largest sheet, so that a longer file is refused */
 
 static void print_search(eas_answer a) {
     if (a.number)
-        printf("  search: refusal %u\n", a.number);
+        printf("  search: refusal %u: %s\n", a.number, eas_reason(a.number));
     else if (a.letter == 'T')
         printf("  search: temperature %.6f K\n", (double)a.value / 1e6);
     else
@@ -26,26 +32,32 @@ static void print_mark(eas_mark mark) {
         printf("  mark: across %.0f, up %.0f\n", mark.point.across, mark.point.up);
 }
 
+static void print_state(size_t n, const char *spelled) {
+    const uint8_t *name = (const uint8_t *)spelled;
+    size_t m = strlen(spelled);
+    uint8_t line[EAS_LINE_ROOM];
+    eas_text text = eas_line(sheet, n, name, m, line, sizeof line);
+    printf("name %s\n", spelled);
+    print_search(eas_search(sheet, n, name, m));
+    print_mark(eas_plot(sheet, n, name, m));
+    printf("  line: %.*s", (int)text.length, (const char *)line);
+}
+
 int main(int argc, char **argv) {
     FILE *file = argc > 1 ? fopen(argv[1], "rb") : NULL;
-    if (!file) {
+    size_t n = file ? fread(sheet, 1, sizeof sheet, file) : 0;
+    if (argc < 2) {
         fprintf(stderr, "usage: example SHEET NAME...\n");
         return 2;
     }
-    size_t n = fread(sheet, 1, sizeof sheet, file);
-    fclose(file);
-    printf("sheet: %u\n", eas_check(sheet, n));
-    for (int i = 2; i < argc; i++) {
-        const uint8_t *name = (const uint8_t *)argv[i];
-        size_t length = 0;
-        while (argv[i][length])
-            length++;
-        uint8_t line[192];
-        eas_text text = eas_line(sheet, n, name, length, line, sizeof line);
-        printf("name %s\n", argv[i]);
-        print_search(eas_search(sheet, n, name, length));
-        print_mark(eas_plot(sheet, n, name, length));
-        printf("  line: %.*s", (int)text.length, (const char *)line);
+    if (!file || ferror(file)) {
+        fprintf(stderr, "example: %s: %s\n", argv[1], strerror(errno));
+        return 1;
     }
-    return 0;
+    fclose(file);
+    uint32_t refused = eas_check(sheet, n);
+    printf("sheet: %u, %s\n", refused, eas_reason(refused));
+    for (int i = 2; i < argc; i++)
+        print_state(n, argv[i]);
+    return refused != 0;
 }

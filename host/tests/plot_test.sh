@@ -1,0 +1,104 @@
+#!/bin/sh
+# plot_test.sh BUILD: what a lab looks for in a plot, and plot's messages.
+cd "$(dirname "$0")/.." || exit 1
+. tests/check.sh
+plot=$1/plot
+tool=$1/sheet_tool
+if test ! -x "$plot" || test ! -x "$tool"; then
+    skip "plot or sheet_tool was not built"
+    finish plot
+fi
+
+# texts FILE.svg: every text of a drawing, a line each.
+texts() {
+    sed -n 's|.*<text[^>]*>\(.*\)</text>.*|\1|p' "$1" | sed -e 's/&lt;/</g' -e 's/&gt;/>/g' -e 's/&amp;/\&/g'
+}
+
+draws() {
+    "$plot" "samples/$1.eas" "$work/$1.svg" "$work/$1.png" "$work/$1.pdf" && tail -n 1 "$work/$1.svg" | grep '^</svg>$' &&
+        head -c 4 "$work/$1.png" | grep PNG && head -c 4 "$work/$1.pdf" | grep PDF
+}
+
+is_xml() {
+    python3 -c 'import sys, xml.dom.minidom; xml.dom.minidom.parse(sys.argv[1])' "$1"
+}
+
+# Every name of the sheet stands in the drawing, as text or spelled.
+names_all() {
+    texts "$2" | sort -u > "$work/texts"
+    { "$tool" unpack "$1" | cut -d , -f 1; "$tool" unpack --spelled "$1" | cut -d , -f 1 | sed 's/$/ (spelled)/'; } |
+        sort -u > "$work/names"
+    comm -12 "$work/names" "$work/texts" | wc -l > "$work/found"
+    cat "$work/found"
+    test "$(cat "$work/found")" -eq "$(($("$tool" unpack "$1" | wc -l) - 1))"
+}
+
+# shows FILE.svg TEXT
+shows() {
+    texts "$1" | grep -qxF "$2"
+}
+
+for sample in sample slash-and-space digits-only shock-tunnel; do
+    expect "$sample is drawn" draws $sample
+    expect "$sample: the drawing is XML" is_xml "$work/$sample.svg"
+    expect "$sample: the strip at -4.5" shows "$work/$sample.svg" "join at -4.5 ± 0.025"
+    expect "$sample: the strip at -0.5" shows "$work/$sample.svg" "join at -0.5 ± 0.005"
+done
+expect "every name of the slash-and-space lab" names_all samples/slash-and-space.eas "$work/slash-and-space.svg"
+expect "every name of digits only" names_all samples/digits-only.eas "$work/digits-only.svg"
+expect "a name with a slash and a space" shows "$work/sample.svg" "nose/cap 1"
+expect "a state without a point is listed" shows "$work/sample.svg" "hot"
+expect "its refusal in words" sh -c "sed -n 's/.*<text[^>]*>\(.*\)<.text>.*/\1/p' '$work/sample.svg' | tr -d '\n' |
+    grep -q 'refusal 13: the fitted temperature is outside 273.15 to about 24,900 K'"
+
+# The axes follow the data: a sheet of dense states has no tick at a thin one.
+printf 'name,pressure_Pa,density_kg_m3\na,1e6,12.92\nb,2e6,129.2\n' | "$tool" pack > "$work/dense.eas"
+"$plot" "$work/dense.eas" "$work/dense.svg"
+expect "a tick at the dense end" shows "$work/dense.svg" "2.0"
+expect "no tick far away" sh -c "! sed -n 's/.*<text[^>]*>\(.*\)<.text>.*/\1/p' '$work/dense.svg' | grep -x -- '-[34567].*'"
+
+# 3,000 states: none is left out of the list, and the marks without a number are counted.
+{
+    echo name,kind,first,density
+    seq 1 3000 | awk '{ printf "%d,1,%d,%d\n", $1, 5e10 + 3e7 * $1, 1e9 * (1 + $1 % 97) }'
+} > "$work/many.csv"
+expect "3,000 states are packed" "$tool" pack -o "$work/many.eas" "$work/many.csv"
+expect "3,000 states are drawn" "$plot" "$work/many.eas" "$work/many.svg"
+expect "each of 3,000 names" names_all "$work/many.eas" "$work/many.svg"
+expect "the marks without a number are told" sh -c "grep -q 'marks stand too close for one' '$work/many.svg'"
+
+# Names of every sort.
+printf 'name,spelled,pressure_Pa,density_kg_m3\n"<a> & ""b""",,1e5,1\nD\303\274se 1,,1e5,2\n,%%FF,1e5,3\n,a%%00b,1e5,4\n,%%20,1e5,5\n' |
+    "$tool" pack > "$work/odd.eas"
+expect "odd names are drawn" "$plot" --title 'A & B <C>' "$work/odd.eas" "$work/odd.svg"
+expect "the drawing of odd names is XML" is_xml "$work/odd.svg"
+expect "marks of XML" shows "$work/odd.svg" '<a> & "b"'
+expect "UTF-8" shows "$work/odd.svg" "Düse 1"
+expect "no UTF-8" shows "$work/odd.svg" "%FF (spelled)"
+expect "a zero byte" shows "$work/odd.svg" "a%00b (spelled)"
+expect "a space alone" shows "$work/odd.svg" "%20 (spelled)"
+expect "the title" shows "$work/odd.svg" "A & B <C>: 5 states"
+printf 'EAS\0\001\0\0' > "$work/empty.eas"
+expect "a sheet without states" "$plot" "$work/empty.eas" "$work/empty.svg" "$work/empty.png" "$work/empty.pdf"
+expect "it says so" shows "$work/empty.svg" "no state has a point"
+
+# Messages.
+try="
+Try 'plot --help'."
+ends "no file" 2 "plot: a sheet and a file to draw must be given$try" "$plot"
+ends "no drawing" 2 "plot: a sheet and a file to draw must be given$try" "$plot" samples/sample.eas
+ends "an unknown ending" 2 "plot: x.gif: no ending .svg, .png or .pdf$try" "$plot" samples/sample.eas x.gif
+ends "an unknown option" 2 "plot: unrecognized option '--size'$try" "$plot" --size
+ends "a missing sheet" 1 "plot: $work/none.eas: No such file or directory" "$plot" "$work/none.eas" "$work/x.svg"
+ends "a folder as sheet" 1 "plot: $work: Is a directory" "$plot" "$work" "$work/x.svg"
+ends "a text as sheet" 1 \
+    "plot: samples/sample.csv: refusal 2: not a sheet: under 7 bytes, or it does not begin with EAS" \
+    "$plot" samples/sample.csv "$work/x.svg"
+for ending in svg png pdf; do
+    ends "no folder for a $ending" 1 "plot: $work/none/x.$ending: No such file or directory" \
+        "$plot" samples/sample.eas "$work/none/x.$ending"
+    ln -s /dev/full "$work/full.$ending"
+    ends "a full disk for a $ending" 1 "plot: $work/full.$ending: No space left on device" \
+        "$plot" samples/sample.eas "$work/full.$ending"
+done
+finish plot

@@ -1,0 +1,91 @@
+/* The parts of a plot: a sheet's states as marks over the density, a panel for each wanted quantity, and the list of
+ * all states beside and below them. */
+#ifndef PLOT_H
+#define PLOT_H
+
+#include "figure.h"
+#include "kinds.h"
+#include "record.h"
+
+/* Room for a name as it is shown. */
+enum { SHOWN_ROOM = SPELLED_MOST + 12 };
+
+/* A part of the page. */
+typedef struct {
+    double x, y, w, h;
+} box;
+
+/* A state of the sheet; `place` is where its mark stands on the page. */
+typedef struct {
+    state s;
+    unsigned number;       /* its place in the sheet, from 1 */
+    char name[SHOWN_ROOM]; /* as text, or spelled where it is none */
+    eas_mark mark;
+    bool fitted, joined;
+    point place;
+} item;
+
+typedef struct {
+    double low, high;
+    bool logarithmic;
+} axis;
+
+typedef struct {
+    const kind_row *kind;
+    unsigned points;
+    axis up; /* in the wanted quantity's SI unit */
+    double top, bottom;
+    colour ink;
+} panel;
+
+typedef struct {
+    const char *title;
+    item *items;
+    unsigned count, blanks;
+    axis across; /* log10 of the density ratio */
+    panel panels[KIND_COUNT];
+    unsigned panel_count;
+    double plot_bottom, width, height;
+} chart;
+
+/* The page: its largest and least width, the panels' left and right ends, and where the list beside them begins. */
+enum {
+    PAGE_WIDTH = 1600,
+    PAGE_LEAST = 1380,
+    LEFT = 84,
+    RIGHT = 1010,
+    LIST_LEFT = 1040,
+    LIST_TOP = 140,
+    PAGE_EDGE = 24
+};
+
+extern const colour black, dark, grey, light;
+
+/* A state's place on the axes. */
+double across_of(const item *it);
+double up_of(const item *it, const kind_row *kind);
+bool is_point_of(const item *it, const kind_row *kind);
+
+/* A value's place on the page. */
+double page_x(const chart *c, double across);
+double page_y(const panel *p, double value);
+
+/* plot_axes.c: ranges that follow the data, what stands behind the marks, and the names of the curves between them. */
+void fit_axes(chart *c);
+void draw_ruler(figure *f, const chart *c, double top);
+void draw_panel(figure *f, const chart *c, const panel *p);
+void label_curves(figure *f, const chart *c, const panel *p);
+
+/* plot_marks.c: what no label may cover is kept clear; marks have names where all find room, else numbers. */
+void clear_page(void);
+void keep_clear(box b);
+bool is_free(const panel *p, box b);
+void place_marks(chart *c, const panel *p);
+void draw_marks(figure *f, const chart *c, const panel *p);
+void draw_shape(figure *f, point at, colour ink, double size, const item *it);
+
+/* plot_list.c: lays the list out, which sets the page's height, and draws it. */
+void lay_out_list(chart *c);
+void draw_list(figure *f);
+
+#endif
