@@ -11,6 +11,7 @@ use lib.ListN.{length, take}
 use Rattle.distinct.specs.Distinct.{repeats}
 use Rattle.octets.specs.Bytes.{numberAt}
 use Rattle.sheet_record.specs.Layout.{Layout, layoutOf, layoutIn, orPlain}
+use Rattle.sheet_record.specs.Front.{endAt}
 use Rattle.sheet.specs.Sheet.{Sheet, refused, records, isMarked, withLayout, sheetBy, sheetOf, numberOf, Accepted}
 use Rattle.sheet.specs.Structure.{versionFault, headFault, faultFrom, placesFrom, Walked}
 use Rattle.sheet_record.specs.declared.Record.{Record}
@@ -107,11 +108,11 @@ accepted-is s a = go (headFault s) refl
         let m : headFault s ≡ 0 = sym (number-head s n) ∙ a in
         absurd (n m)
 
--- the number of a sheet, from a walk over its records
-pub number-walked : (s : List ℕ) (n number count : ℕ) (starts : List ℕ) → headFault s ≡ 0 → n ≡ numberAt 2 s 5 → Walked s n number count starts
-    → numberOf (sheetOf s) ≡ cond (repeats s (take count starts)) 16 number
-number-walked s n number count starts h e w =
+-- the number of a sheet, from where a walk over its records ends
+pub number-walked : (s : List ℕ) (n at left count : ℕ) (starts : List ℕ) → headFault s ≡ 0 → n ≡ numberAt 2 s 5 → Walked s n at left count starts
+    → numberOf (sheetOf s) ≡ cond (repeats s (take count starts)) 16 (endAt (layoutIn s) s at left)
+number-walked s n at left count starts h e w =
     let c : repeats s (take count starts) ≡ twice (names s (read s)) =
     ap (repeats s) (w .places) ∙ ap (λ (m : ℕ). repeats s (placesFrom (layoutIn s) s m 7)) e ∙ repeats-names (layoutIn s) s (numberAt 2 s 5) 7 in
-    let f : number ≡ fault s = w .fault ∙ ap (λ (m : ℕ). faultFrom (layoutIn s) s m 7) e in
+    let f : endAt (layoutIn s) s at left ≡ fault s = w .fault ∙ ap (λ (m : ℕ). faultFrom (layoutIn s) s m 7) e in
     number-records s h ∙ ap₂ (λ (b : Bool) (k : ℕ). cond b 16 k) (sym c) (sym f)

@@ -54,9 +54,9 @@ module _ (s starts : List ℕ) (n count : ℕ) (most : count ≤ length starts) 
   names-fit j l = omega (arith, kept-at j l .fits)
 
 -- the index, from a walk over the records and a table of their names
-pub indexed : (s : List ℕ) (n count : ℕ) (starts heads next : List ℕ) → n ≡ numberAt 2 s 5 → Walked s n 0 count starts → Table s starts heads next count
+pub indexed : (s : List ℕ) (n at left count : ℕ) (starts heads next : List ℕ) → n ≡ numberAt 2 s 5 → Walked s n at left count starts → Table s starts heads next count
     → Accepted s → Indexed s starts heads next
-indexed s n count starts heads next e w t a =
+indexed s n at left count starts heads next e w t a =
     record {
       accepted = a;
       whole = w .whole;

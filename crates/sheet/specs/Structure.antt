@@ -8,7 +8,7 @@ use lib.Dec.{eqb, ltb}
 use lib.ListN.{length, take, drop}
 use Rattle.octets.specs.Bytes.{numberAt}
 use Rattle.sheet_record.specs.Layout.{Layout, layoutOf, layoutIn}
-use Rattle.sheet_record.specs.Front.{bad, front, frontOf, past}
+use Rattle.sheet_record.specs.Front.{bad, front, frontOf, past, endAt}
 use Rattle.sheet.specs.Sheet.{isMarked}
 
 -- 3 for a version without a layout, or 0
@@ -33,9 +33,9 @@ unfoldable pub faultFrom : Layout → List ℕ → ℕ → ℕ → ℕ
 faultFrom y s zero at = cond (eqb at (length s)) 0 4
 faultFrom y s (suc n) at = elim (frontOf y (drop at s)) [ bad k ↦ k | front f ↦ faultFrom y s n (past at f) ]
 
--- what a walk over n records leaves: the refusal that ended it, and in front of the array the places of the records before it
-pub record Walked (s : List ℕ) (n number count : ℕ) (starts : List ℕ) : Type 0 where
-  pub fault : number ≡ faultFrom (layoutIn s) s n 7
+-- where a walk over n records ends: there stands no record, and in front of the array are the places of the records before it
+pub record Walked (s : List ℕ) (n at left count : ℕ) (starts : List ℕ) : Type 0 where
+  pub fault : endAt (layoutIn s) s at left ≡ faultFrom (layoutIn s) s n 7
   pub places : take count starts ≡ placesFrom (layoutIn s) s n 7
   pub most : count ≤ 3449
   pub whole : length starts ≡ 3449

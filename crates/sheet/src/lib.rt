@@ -1,8 +1,7 @@
 // The state sheet: its header, a walk over its records, and an index of their names.
-use sheet_record::Step;
 ghost use mathlib.Core.Path.{_≡_};
-ghost use Prim.Native.Nat.{_≤_};
-ghost use lib.ListN.{length};
+ghost use Prim.Native.Nat.{_<_, _≤_};
+ghost use lib.ListN.{length, set};
 ghost use Rattle.sheet.specs.Index.{Blank, Indexed};
 ghost use Rattle.sheet.specs.Sheet.{numberOf, sheetOf};
 ghost use Rattle.sheet.specs.Structure.{Walked, headFault};
@@ -33,41 +32,37 @@ fn head_fault(s: &[u8]) -> u32
     }
 }
 
-// What a walk over the records finds: the refusal that ends it, 0 at the end of the sheet, and how many records come before.
+// Where a walk over the records ends: the reader's place, how many records are left, and how many come before.
 struct Tally {
-    number: u32,
+    at: usize,
+    left: usize,
     count: usize,
 }
 
-// Walks over the records and keeps the place of each length byte.
+// Keeps the place of a length byte.
+fn keep(starts: &mut [u16; 3449], i: usize, at: usize)
+    requires { ⌜ (i < 3449) × (at < 65536) ⌝ }
+    ensures { λ _. ⌜ now (starts .exit) ≡ set (now (starts .entry)) i at ⌝ }
+{
+    starts[i] = at as u16;
+}
+
+// Walks over the records with one reader, and keeps the place of each length byte.
 fn walk_records(s: &[u8], records: usize, starts: &mut [u16; 3449]) -> Tally
     requires { ⌜ (length (now s) ≤ 65536) × (length (now starts) ≡ 3449) ⌝ }
-    ensures { λ r. ⌜ Walked (now (s .entry)) records (r .number) (r .count) (now (starts .exit)) ⌝ }
+    ensures { λ r. ⌜ Walked (now (s .entry)) records (r .at) (r .left) (r .count) (now (starts .exit)) ⌝ }
 {
-    let mut at: usize = 7;
-    let mut left = records;
+    let mut r = sheet_record::make(s, 7, records);
     let mut i: usize = 0;
-    loop {
-        match sheet_record::read_from(s, at, left) {
-            Step::Refused(number) => {
-                return Tally {
-                    number: number,
-                    count: i,
-                };
-            }
-            Step::End => {
-                return Tally {
-                    number: 0,
-                    count: i,
-                };
-            }
-            Step::Read(_, next) => {
-                starts[i] = at as u16;
-                i += 1;
-                at = next.at;
-                left = next.left;
-            }
-        }
+    while sheet_record::more(r) {
+        keep(starts, i, r.at);
+        r = sheet_record::next(r);
+        i += 1;
+    }
+    Tally {
+        at: r.at,
+        left: r.left,
+        count: i,
     }
 }
 
@@ -89,12 +84,13 @@ pub fn index(
     }
     let records = sheet_record::number(s, 5, 2) as usize;
     let walked = walk_records(s, records, starts);
-    let number = walked.number;
     let count = walked.count;
     if distinct::repeats(s, starts, count, heads, next) {
         return 16;
     }
-    number
+    let at = walked.at;
+    let left = walked.left;
+    sheet_record::end_at(s, at, left)
 }
 
 // The number of the first condition that refuses a sheet, or 0.

@@ -1,3 +1,4 @@
 pub mod Places
 pub mod Steps
 pub mod Local
+pub mod Lent

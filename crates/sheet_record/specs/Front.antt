@@ -1,5 +1,5 @@
 -- Document 01, State sheet: a record, by the bytes that it begins with and by its place in the sheet.
-use mathlib.Core.Bool.{cond, _||_}
+use mathlib.Core.Bool.{Bool, false, cond, _||_}
 use mathlib.Core.List.{List, [], _∷_}
 use mathlib.Core.Option.{Option, none, some}
 use Prim.Native.Nat.{ℕ, zero, suc, _+_}
@@ -9,8 +9,6 @@ use Rattle.kind.specs.Kind.{kindOf, isKnown}
 use Rattle.octets.specs.Bytes.{numberAt, part}
 use Rattle.sheet_record.specs.Layout.{Layout}
 use Rattle.sheet_record.specs.declared.Record.{Record}
-use Rattle.sheet_record.specs.declared.Step.{Step}
-use Rattle.sheet_record.specs.declared.Step.the-variants.{Read, Refused, End}
 
 -- what a record says, wherever it stands: the length of its name, its kind byte, its two values, and the length of its tail
 pub record Fields : Type 0 where
@@ -74,12 +72,12 @@ entryAt s at =
       second = numberAt 8 s (at + 1 + n + 9);
     }
 
--- a cursor's step: the place of the next record and the number of records that are left go in, the record and the next cursor come out.
--- Where none is left, the sheet ends there, or has bytes left over
-abbrev pub placed : ℕ → ℕ → Front → Step
-placed at left (bad k) = Refused k
-placed at left (front f) = Read (recordAt at f) (record { at = past at f; left = left })
+-- where so many records are left: whether one stands at a place
+unfoldable pub standsAt : Layout → List ℕ → ℕ → ℕ → Bool
+standsAt y s at zero = false
+standsAt y s at (suc left) = eqb (faultOf (frontOf y (drop at s))) 0
 
-unfoldable pub stepAt : Layout → List ℕ → ℕ → ℕ → Step
-stepAt y s at zero = cond (eqb at (length s)) End (Refused 4)
-stepAt y s at (suc left) = placed at left (frontOf y (drop at s))
+-- the refusal where none stands; after the records 4 for bytes left over, or 0
+unfoldable pub endAt : Layout → List ℕ → ℕ → ℕ → ℕ
+endAt y s at zero = cond (eqb at (length s)) 0 4
+endAt y s at (suc left) = faultOf (frontOf y (drop at s))

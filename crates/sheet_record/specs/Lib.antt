@@ -1,2 +1,3 @@
 pub mod Layout
 pub mod Front
+pub mod Reading

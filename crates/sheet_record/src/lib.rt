@@ -1,10 +1,12 @@
 // A record of the state sheet: its fields by their places, and the reader that goes from one record to the next.
 ghost use mathlib.Core.Path.{_≡_};
+ghost use mathlib.Core.Bool.{true};
 ghost use Prim.Native.Nat.{_+_, _<_, _≤_};
 ghost use lib.ListN.{length, getD, drop};
 ghost use Rattle.octets.specs.Bytes.{numberAt};
 ghost use Rattle.sheet_record.specs.Layout.{layoutIn};
-ghost use Rattle.sheet_record.specs.Front.{frontOf, stepAt, faultOf, behind, entryAt};
+ghost use Rattle.sheet_record.specs.Reading.{readOn};
+ghost use Rattle.sheet_record.specs.Front.{frontOf, faultOf, behind, entryAt, standsAt, endAt};
 
 // One record: where its name stands, its kind byte and its two values.
 pub struct Record {
@@ -13,19 +15,6 @@ pub struct Record {
     pub kind: u8,
     pub first: u64,
     pub second: u64,
-}
-
-// The place of the next record, and how many are left.
-pub struct Cursor {
-    pub at: usize,
-    pub left: usize,
-}
-
-// What a cursor's step finds: a record and the next cursor, a refusal's number, or the end of the sheet.
-pub enum Step {
-    Read(Record, Cursor),
-    Refused(u32),
-    End,
 }
 
 pub fn long(x: u8) -> usize
@@ -97,34 +86,35 @@ pub fn entry_at(s: &[u8], at: usize, n: usize) -> Record
     }
 }
 
-// The place behind the record whose length byte stands at a place.
-fn past_of(s: &[u8], at: usize, n: usize) -> usize
-    requires { ⌜ (n ≡ getD (now s) at 0) × (faultOf (frontOf (layoutIn (now s)) (drop at (now s))) ≡ 0) ⌝ }
-    ensures { λ r. ⌜ r ≡ behind at (frontOf (layoutIn (now (s .entry))) (drop at (now (s .entry)))) ⌝ }
+// Whether a record stands at a place where so many are left.
+fn stands_at(s: &[u8], at: usize, left: usize) -> bool
+    ensures { λ r. ⌜ r ≡ standsAt (layoutIn (now (s .entry))) (now (s .entry)) at left ⌝ }
 {
-    at + 18 + n
+    if left == 0 {
+        return false;
+    }
+    fault_at(s, at) == 0
 }
 
-// The cursor's step at a place with so many records left.
-fn step_at(s: &[u8], at: usize, left: usize) -> Step
-    ensures { λ r. ⌜ r ≡ stepAt (layoutIn (now (s .entry))) (now (s .entry)) at left ⌝ }
+// The place behind the record that stands at a place.
+fn past_at(s: &[u8], at: usize, left: usize) -> usize
+    requires { ⌜ standsAt (layoutIn (now s)) (now s) at left ≡ true ⌝ }
+    ensures { λ r. ⌜ r ≡ behind at (frontOf (layoutIn (now (s .entry))) (drop at (now (s .entry)))) ⌝ }
+{
+    at + 18 + long(s[at])
+}
+
+// The refusal at a place where no record stands; 0 at the end of the sheet.
+pub fn end_at(s: &[u8], at: usize, left: usize) -> u32
+    ensures { λ r. ⌜ r ≡ endAt (layoutIn (now (s .entry))) (now (s .entry)) at left ⌝ }
 {
     if left == 0 {
         if at == s.len() {
-            return Step::End;
+            return 0;
         }
-        return Step::Refused(4);
+        return 4;
     }
-    let number = fault_at(s, at);
-    if number != 0 {
-        return Step::Refused(number);
-    }
-    let n = long(s[at]);
-    let next = Cursor {
-        at: past_of(s, at, n),
-        left: left - 1,
-    };
-    Step::Read(entry_at(s, at, n), next)
+    fault_at(s, at)
 }
 
 // The sheet reader: the sheet, the place of its next record, and how many are left.
@@ -141,16 +131,21 @@ pub fn make<'a>(sheet: &'a [u8], at: usize, left: usize) -> Reader<'a>
     Reader { sheet, at, left }
 }
 
-// What the reader finds at its place.
-pub fn next<'a>(r: Reader<'a>) -> Step
-    ensures { λ t. ⌜ t ≡ stepAt (layoutIn (now (r .entry .sheet))) (now (r .entry .sheet)) (r .entry .at) (r .entry .left) ⌝ }
+// Whether a record stands where the reader is.
+pub fn more<'a>(r: Reader<'a>) -> bool
+    ensures { λ b. ⌜ b ≡ standsAt (layoutIn (now (r .entry .sheet))) (now (r .entry .sheet)) (r .entry .at) (r .entry .left) ⌝ }
 {
-    step_at(r.sheet, r.at, r.left)
+    stands_at(r.sheet, r.at, r.left)
 }
 
-// What a reader at a place of a sheet finds.
-pub fn read_from(s: &[u8], at: usize, left: usize) -> Step
-    ensures { λ r. ⌜ r ≡ stepAt (layoutIn (now (s .entry))) (now (s .entry)) at left ⌝ }
+// The reader behind the record that stands where it is.
+pub fn next<'a>(r: Reader<'a>) -> Reader<'a>
+    requires { ⌜ standsAt (layoutIn (now (r .sheet))) (now (r .sheet)) (r .at) (r .left) ≡ true ⌝ }
+    ensures { λ q. ⌜ q ≡ readOn (r .entry) ⌝ }
 {
-    next(make(s, at, left))
+    Reader {
+        sheet: r.sheet,
+        at: past_at(r.sheet, r.at, r.left),
+        left: r.left - 1,
+    }
 }

@@ -21,20 +21,18 @@ use types.Run.{look, init, forget, stop, from, load, and-then, no-more, assigns,
 use sound.WpLaws.{WpFn-mono}
 use denote.RattleType.{owns}
 use denote.Laws.{Is}
-use denote.Plain.{uint-makes, uint-vals, uint-tells}
+use denote.Plain.{uint-vals, uint-tells}
 use denote.Builtin.{u8, usize}
 use denote.Ref.{RefT, NamedLft}
 use denote.Signature.{plain, namedLft}
 use denote.Slice.{sliceVal, ShrSlice, slice-vals, shr-slice-tells, shr-slice-lawful, shr-slice-copy}
-use denote.Steps.{nothing, owned}
-use denote.Struct.Rest.{own-shut}
 use denote.Triple.Entry.{onEntry, Vals}
 use denote.Triple.Spec.{Meets, tripleOf}
 use denote.Triple.Table.{entered}
 use denote.Triple.Walked.{says, Stays, stay-none-slice, walkOf, goes-none-slice, Walks, ends-at, walked, walk-meets, stay-none, goes-none}
 use denote.Exit.{yes}
 use Rattle.sheet_record.specs.declared.Reader.{Reader}
-use Rattle.sheet_record.proofs.Reader as T
+use Rattle.sheet_record.proofs.Lent.{sheet-in}
 use Rattle.sheet_record.proofs.Reader.Laws as T′
 use Rattle.sheet_record.proofs.make.Key.{name as #sheet·make}
 use Rattle.sheet_record.proofs.make as new
@@ -69,8 +67,7 @@ module _ {M : Type 1} (𝓤 : URA M) (H : Heap 𝓤) (A : Atoms 𝓤) (W : Given
       qed W ((‵ (flft κ q) ⊛ ‵ ftrue) ∷ ‵ (owns (ShrSlice (named 0) κ u8 ∷ usize ∷ usize ∷ []) (s, (n, (m, tt))) at) ∷ []) ∵
       suffices ! _ (ends-at 𝓤 H A new.ended stayed (new.clauses 𝓤 H A mem run) W (((κ, tt), (q, tt), tt, (s, (n, (m, tt))), at), tt) (T′.lowered made) made (tt, (tt, (tt, tt))) (tt, (tt, (tt, tt)))) $ says ! (refl, refl, refl) $
       frame ! $ fsplit ! $ use1 W (‵ Own ⊛ ‵ Own) (shr-slice-copy 𝓤 H A W (named 0) κ u8 .twice s (v ∷ [])) $ split ! $ move ! (0 ∷ 2 ∷ []) $ fjoin ! $ frame ! $
-      -- [what src owns]: what the fields own together, of it and of at's facts, is what the struct owns
-      nothing ! $ owned ! usize (Is usize) (uint-makes 𝓤 H A W w64) m _ (refl, okm) $ fjoin ! $ owned ! usize (Is usize) (uint-makes 𝓤 H A W w64) n _ (refl, ok) $ fjoin ! $ move ! (1 ∷ 0 ∷ []) $ fjoin ! $ by ! (own-shut 𝓤 H A W (T.the-type α) (T′.the-laws α) (s, (n, (m, tt))))
+      by ! (sheet-in α 𝓤 H A W made ok okm)
 
   module _ (C : Calls 𝓤 H) (Λ : Loops 𝓤 H) where
     walk : Is (ShrSlice (named 0) κ u8) s (v ∷ []) → ent 𝓤 (onEntry 𝓤 H A new.signature (κ, tt) (q, tt) (s, (n, (m, tt))) at) (WpFn 𝓤 H C Λ code.function (v ∷ vint w64 n ∷ vint w64 m ∷ []) Post)
