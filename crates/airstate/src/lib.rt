@@ -16,7 +16,7 @@ ghost use Rattle.air.specs.State.{answerBy};
 ghost use Rattle.mark.specs.Mark.{markOf};
 ghost use Rattle.calculator.specs.Search.{locate, searchBy};
 ghost use Rattle.flat.specs.Flat.{flat, flatFound, flatText, flatMark};
-ghost use Rattle.airstate.specs.Texts.{lineIn, readIn};
+ghost use Rattle.airstate.specs.Texts.{lineIn, listingIn, readIn};
 
 // The sheet's number: 0, 1 to 6, 16.
 #[no_mangle]
@@ -76,6 +76,15 @@ pub extern "C" fn eas_line(sheet: &[u8], spelled: &[u8], out: &mut [u8]) -> CTex
     ensures { λ _. ⌜ now (out .exit) ≡ written (lineIn (length (now (out .entry))) (now (sheet .entry)) (now (spelled .entry))) (now (out .entry)) ⌝ }
 {
     flat::flatten_text(report::line(sheet, spelled, out))
+}
+
+// The whole listing of spelled names, one a line, in lent room.
+#[no_mangle]
+pub extern "C" fn eas_list(sheet: &[u8], names: &[u8], out: &mut [u8]) -> CText
+    ensures { λ r. ⌜ r ≡ flatText (outcomeOf (listingIn (length (now (out .entry))) (now (sheet .entry)) (now (names .entry)))) ⌝ }
+    ensures { λ _. ⌜ now (out .exit) ≡ written (listingIn (length (now (out .entry))) (now (sheet .entry)) (now (names .entry))) (now (out .entry)) ⌝ }
+{
+    flat::flatten_text(report::listing(sheet, names, out))
 }
 
 // Spells a raw name into lent room.

@@ -5,14 +5,16 @@ use mathlib.Core.List.{List, [], _++_}
 use mathlib.Core.Path.{_≡_, refl, sym, ap, _∙_}
 use Prim.Native.Nat.{ℕ, _≤_, _<_}
 use native.Mathlib.Omega.{arith}
-use borrow.Author.Tests.{eq-eqb, ne-eqb, lt-ltb, le-ltb}
-use lib.Dec.{ltb, leb}
+use borrow.Author.Tests.{eq-eqb, ne-eqb, lt-ltb, le-ltb, le-leb, leb-true}
+use lib.Dec.{eqb, ltb, leb}
 use lib.ListN.{length}
+use Rattle.air.specs.Choices.{chosen}
 use Rattle.line.specs.Line.{refusalRest}
+use Rattle.octets.specs.declared.Outcome.{Outcome}
 use Rattle.octets.specs.declared.Outcome.the-variants.{Done}
-use Rattle.octets.specs.Room.{text, refused, fitting, written, outcomeOf}
+use Rattle.octets.specs.Room.{text, refused, fitting, outcomeOf}
 use Rattle.sheet.specs.Sheet.{sheetOf, numberOf}
-use Rattle.report.specs.Listing.{sheetWord, listWord, listingFor, refusalOf}
+use Rattle.report.specs.Listing.{sheetWord, listWord, listingFor, linesOf, linesBy, listingBy, refusalOf}
 
 -- a listing by whether the sheet is accepted, and whether the list is too long
 abbrev pub either : ℕ → List ℕ → Bool → Bool → List ℕ
@@ -35,16 +37,43 @@ module _ (sheet list : List ℕ) (number : ℕ) (e : number ≡ numberOf (sheetO
   pub not-refused : number ≡ 0 → length list ≤ 65536 → refusalOf sheet list ≡ []
   not-refused h k = accepted h ∙ ap (either number [] true) (le-ltb 65536 (length list) k)
 
--- a text of which n bytes were written stands whole in front of the room
-pub done-text : (t room last : List ℕ) (n : ℕ)
-    → Done n ≡ outcomeOf (fitting (length room) t)
-    → last ≡ written (fitting (length room) t) room
-    → (n ≡ length t) × (last ≡ written (text t) room)
-done-text t room last n e h = go (leb (length t) (length room)) e h
+-- a text of which n bytes were written fits the room
+pub done-fits : (t : List ℕ) (room n : ℕ) → Done n ≡ outcomeOf (fitting room t) → (n ≡ length t) × (length t ≤ room) × (fitting room t ≡ text t)
+done-fits t room n e = go (leb (length t) room) refl e
   where
-    go : (b : Bool) → Done n ≡ outcomeOf (cond b (text t) (refused 14)) → last ≡ written (cond b (text t) (refused 14)) room → (n ≡ length t) × (last ≡ written (text t) room)
-    go true e h = (cc, h)
-    go false e h = let p : _≡_ {A = ℕ} 0 1 = cc in let q : ⊥ = omega arith in absurd q
+    go : (b : Bool) → leb (length t) room ≡ b → Done n ≡ outcomeOf (cond b (text t) (refused 14)) → (n ≡ length t) × (length t ≤ room) × (cond b (text t) (refused 14) ≡ text t)
+    go true p e = (cc, leb-true (length t) room p, refl)
+    go false p e = let z : _≡_ {A = ℕ} 0 1 = cc in absurd (omega arith)
 
-pub not-empty : (t room : List ℕ) → 0 < length t → Done 0 ≡ outcomeOf (fitting (length room) t) → ⊥
-not-empty t room h e = omega (arith, done-text t room _ 0 e refl .0)
+pub not-empty : (t : List ℕ) (room : ℕ) → 0 < length t → Done 0 ≡ outcomeOf (fitting room t) → ⊥
+not-empty t room h e = omega (arith, done-fits t room 0 e .0)
+
+empty-fits : (room : ℕ) → outcomeOf (fitting room []) ≡ Done 0
+empty-fits room = rw (le-leb 0 room (omega arith))
+
+-- the listing by the refusal that `begin` answers with: that line alone, or else all lines
+module _ (sheet list : List ℕ) (room : ℕ) (r : Outcome) (e : r ≡ outcomeOf (fitting room (refusalOf sheet list))) where
+  abbrev number : ℕ
+  number = numberOf (sheetOf sheet)
+
+  abbrev lines : List ℕ
+  lines = linesBy chosen sheet (linesOf list)
+
+  pub one-line : (r ≡ Done 0 → ⊥) → refusalOf sheet list ≡ listingBy chosen sheet list
+  unfolding refusalOf listingBy
+  one-line z = go (eqb number 0) (ltb 65536 (length list)) e
+    where
+      go : (accepted long : Bool) → r ≡ outcomeOf (fitting room (either number [] accepted long)) → either number [] accepted long ≡ either number lines accepted long
+      go true true h = refl
+      go true false h = absurd (z (h ∙ empty-fits room))
+      go false long h = refl
+
+  pub all-lines : r ≡ Done 0 → (refusalOf sheet list ≡ []) × (listingBy chosen sheet list ≡ lines)
+  unfolding refusalOf listingBy
+  all-lines d = go (eqb number 0) (ltb 65536 (length list)) (sym d ∙ e)
+    where
+      go : (accepted long : Bool) → Done 0 ≡ outcomeOf (fitting room (either number [] accepted long))
+          → (either number [] accepted long ≡ []) × (either number lines accepted long ≡ lines)
+      go true false h = (refl, refl)
+      go true true h = absurd (not-empty (either number [] true true) room (omega arith) h)
+      go false long h = absurd (not-empty (either number [] false long) room (omega arith) h)

@@ -1,25 +1,22 @@
 -- What the program writes is the listing, whatever its parts are.
 -- Assumes nothing.
-use mathlib.Core.Bool.{Bool, true, false}
 use mathlib.Core.List.{List, [], _++_}
 use mathlib.Core.Path.{_≡_, refl, sym, ap, ap₂, _∙_, subst}
-use Prim.Native.Nat.{ℕ, _≤_, _<_}
+use Prim.Native.Nat.{ℕ, _≤_}
 use native.Mathlib.Omega.{arith}
 use borrow.Author.Tests.{le-leb}
-use lib.Dec.{eqb, ltb}
 use lib.ListN.{length, take, drop}
 use lib.Seq.{take-at}
 use Rattle.air.specs.Choices.{chosen}
 use Rattle.air.proofs.Allowed.{lawful}
 use Rattle.octets.specs.declared.Outcome.{Outcome}
 use Rattle.octets.specs.declared.Outcome.the-variants.{Done}
-use Rattle.octets.specs.Room.{fitting, written, outcomeOf}
-use Rattle.sheet.specs.Sheet.{sheetOf, numberOf}
+use Rattle.octets.specs.Room.{Text, fitting, written, outcomeOf}
 use Rattle.report.specs.Listing.{linesOf, linesBy, listingBy, refusalOf, IsListing}
 use Rattle.report.specs.Steps.{Parts, none, more, Output, refusal, lines}
 use Rattle.report.proofs.Input.{none-left}
 use Rattle.report.proofs.Output.{lines-append}
-use Rattle.report.proofs.Cases.{either, done-text, not-empty}
+use Rattle.report.proofs.Cases.{done-fits, one-line, all-lines}
 use Rattle.report.proofs.Allowed.{listing-allowed}
 
 module _ (sheet list : List ℕ) where
@@ -32,29 +29,6 @@ module _ (sheet list : List ℕ) where
       ap₂ _++_ (ap (take len) (p .holds) ∙ take-at t (drop (length t) room) len (sym (p .here))) (parts-text ps)
       ∙ sym (ap (linesBy chosen sheet) (p .names) ∙ lines-append sheet (p .done) (linesOf (drop next list)))
 
-  module _ (room : List ℕ) (number : ℕ) where
-    -- where nothing was written, nothing is refused
-    all-lines : (accepted long : Bool) (ls : List ℕ) → Done 0 ≡ outcomeOf (fitting (length room) (either number [] accepted long)) → either number ls accepted long ≡ ls
-    all-lines true false ls e = refl
-    all-lines true true ls e = absurd (not-empty (either number [] true true) room (omega arith) e)
-    all-lines false long ls e = absurd (not-empty (either number [] false long) room (omega arith) e)
-
-    -- where something was written, it is the whole listing
-    one-line : (accepted long : Bool) (ls last : List ℕ) (n : ℕ)
-        → 0 < n
-        → Done n ≡ outcomeOf (fitting (length room) (either number [] accepted long))
-        → last ≡ written (fitting (length room) (either number [] accepted long)) room
-        → take n last ≡ either number ls accepted long
-    one-line accepted long ls last n h e w = go accepted long (done-text (either number [] accepted long) room last n e w)
-      where
-        front : (t : List ℕ) → (n ≡ length t) × (last ≡ t ++ drop (length t) room) → take n last ≡ t
-        front t d = ap (take n) (d .1) ∙ take-at t (drop (length t) room) n (sym (d .0))
-
-        go : (accepted long : Bool) → (n ≡ length (either number [] accepted long)) × (last ≡ either number [] accepted long ++ drop (length (either number [] accepted long)) room) → take n last ≡ either number ls accepted long
-        go true false d = let f : ⊥ = omega (arith, d .0) in absurd f
-        go true true d = front (either number [] true true) d
-        go false long d = front (either number [] false long) d
-
   -- a room of 71 bytes is always enough for `begin`
   pub answered : (room : List ℕ) (r : Outcome) → length (refusalOf sheet list) ≤ 71 → 71 ≤ length room → r ≡ outcomeOf (fitting (length room) (refusalOf sheet list)) → r ≡ Done (length (refusalOf sheet list))
   answered room r h k e = rw (le-leb (length (refusalOf sheet list)) (length room) (omega arith)) at e
@@ -62,13 +36,13 @@ module _ (sheet list : List ℕ) where
   -- `begin` answered r and left `last` in the room
   module _ (room last : List ℕ) (w : last ≡ written (fitting (length room) (refusalOf sheet list)) room) where
     pub whole : {r : Outcome} {out : List ℕ} → r ≡ outcomeOf (fitting (length room) (refusalOf sheet list)) → Output sheet list last r out → out ≡ listingBy chosen sheet list
-    unfolding listingBy refusalOf
     whole e (refusal {n} h) =
-        let number = numberOf (sheetOf sheet) in
-        one-line room number (eqb number 0) (ltb 65536 (length list)) (linesBy chosen sheet (linesOf list)) last n h e w
-    whole e (lines ps) =
-        let number = numberOf (sheetOf sheet) in
-        parts-text ps ∙ sym (all-lines room number (eqb number 0) (ltb 65536 (length list)) (linesBy chosen sheet (linesOf list)) e)
+        let t = refusalOf sheet list in
+        let d = done-fits t (length room) n e in
+        ap (take n) (w ∙ ap (λ (x : Text). written x room) (d .2))
+        ∙ take-at t (drop (length t) room) n (sym (d .0))
+        ∙ one-line sheet list (length room) (Done n) e (λ z. let m : n ≡ 0 = cc in omega arith)
+    whole e (lines ps) = parts-text ps ∙ sym (all-lines sheet list (length room) (Done 0) e refl .1)
 
     -- and document 01 allows it
     pub output-allowed : {r : Outcome} {out : List ℕ} → r ≡ outcomeOf (fitting (length room) (refusalOf sheet list)) → Output sheet list last r out → IsListing sheet list out

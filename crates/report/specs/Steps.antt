@@ -4,6 +4,9 @@ use mathlib.Core.Path.{_≡_}
 use Prim.Native.Nat.{ℕ, _+_, _-_, _≤_, _<_}
 use lib.ListN.{length, take, drop}
 use Rattle.air.specs.Choices.{chosen}
+use Rattle.calculator.specs.Search.{searchBy}
+use Rattle.line.specs.declared.Line.{Line}
+use Rattle.line.specs.Line.{line, lineHeld}
 use Rattle.octets.specs.Bytes.{part}
 use Rattle.octets.specs.Room.{text, written}
 use Rattle.octets.specs.declared.Outcome.{Outcome}
@@ -15,6 +18,15 @@ pub record FirstLine (list : List ℕ) (start end : ℕ) : Type 0 where
   pub from : start ≤ end
   pub inside : end ≤ length list
   pub first : linesOf (drop start list) ≡ part list start (end - start) ∷ linesOf (drop (end + 1) list)
+
+-- the line of the name that starts at a place, in its 192 bytes; the other names start at `next`
+pub record NextLine (sheet list : List ℕ) (start next : ℕ) (built : Line) : Type 0 where
+  pub name : List ℕ
+  pub names : linesOf (drop start list) ≡ name ∷ linesOf (drop next list)
+  pub text : built ≡ lineHeld (line name (searchBy chosen sheet name))
+  pub short : built .len ≤ 192
+  pub after : start < next
+  pub inside : next ≤ length list + 1
 
 -- a part of the listing: `done` are the names from `start` on, those left start at `next`. Their lines stand in front of the
 -- room, `len` bytes. How many names a part has is the program's choice

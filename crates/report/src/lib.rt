@@ -1,4 +1,4 @@
-// A line, and the listing in parts, written to lent room.
+// A line, and the listing whole or in parts, written to lent room.
 use air::Answer;
 use line::Line;
 use octets::Outcome;
@@ -11,8 +11,14 @@ ghost use Rattle.calculator.specs.Search.{searchBy};
 ghost use Rattle.line.specs.Line.{line, refusalRest, lineHeld};
 ghost use Rattle.octets.specs.Room.{fitting, written, outcomeOf};
 ghost use Rattle.sheet.specs.Index.{Blank, Indexed};
-ghost use Rattle.report.specs.Listing.{refusalOf};
-ghost use Rattle.report.specs.Steps.{FirstLine, Part};
+ghost use Rattle.report.specs.Listing.{linesOf, linesBy, listingBy, refusalOf};
+ghost use Rattle.report.specs.Steps.{FirstLine, NextLine, Part};
+
+// The line of a name of the list, and the place of the next name.
+struct Built {
+    line: Line,
+    next: usize,
+}
 
 // How far a part came: the place of the first line that is left, and the bytes that were written.
 pub struct Progress {
@@ -73,6 +79,24 @@ fn line_end(list: &[u8], start: usize) -> usize
     end
 }
 
+// The line of the name that starts at a place of the list, under a sheet that is indexed.
+fn next_line(
+    sheet: &[u8],
+    starts: &[u16; 3449],
+    heads: &[u16; 4096],
+    next: &[u16; 3449],
+    list: &[u8],
+    start: usize,
+) -> Built
+    requires { ⌜ Indexed (now sheet) (now starts) (now heads) (now next) × (start < length (now list)) ⌝ }
+    ensures { λ r. ⌜ NextLine (now (sheet .entry)) (now (list .entry)) start (r .next) (r .line) ⌝ }
+{
+    let end = line_end(list, start);
+    let line = line_in(sheet, starts, heads, next, &list[start..end]);
+    let after = end + 1;
+    Built { line, next: after }
+}
+
 // Copies a line to a place of a room that has space for it, and gives the place behind it.
 fn append(line: Line, out: &mut [u8], at: usize) -> usize
     requires { ⌜ (line .len ≤ length (line .bytes)) × (at + line .len ≤ length (now out)) ⌝ }
@@ -121,8 +145,8 @@ pub fn begin(
     Outcome::Done(0)
 }
 
-// Writes the lines of a list from a place on, while the room has the 192 bytes left that a line is built in. A room of as many
-// takes a line at least, so that the parts come to an end.
+// Writes the lines of a list from a place on, while they fit the room. A room of the 192 bytes that a line is built in takes a line at
+// least, so that the parts come to an end, and one that is long enough for all lines takes all.
 pub fn part(
     sheet: &[u8],
     starts: &[u16; 3449],
@@ -135,26 +159,91 @@ pub fn part(
     requires { ⌜ Indexed (now sheet) (now starts) (now heads) (now next) ⌝ }
     ensures { λ r. ⌜ Part (now (sheet .entry)) (now (list .entry)) (now (out .entry)) (now (out .exit)) start (r .next) (r .len) ⌝ }
     ensures { λ r. ⌜ (start < length (now (list .entry)) → 192 ≤ length (now (out .entry)) → start < r .next) ⌝ }
+    ensures { λ r. ⌜ (length (linesBy chosen (now (sheet .entry)) (linesOf (drop start (now (list .entry))))) ≤ length (now (out .entry)) → length (now (list .entry)) ≤ r .next) ⌝ }
 {
     let mut from = start;
     let mut at = 0;
     while from < list.len() {
-        if out.len() - at < 192 {
+        let built = next_line(sheet, starts, heads, next, list, from);
+        let line = built.line;
+        if out.len() - at < line.len {
             return Progress {
                 next: from,
                 len: at,
             };
         }
-        let end = line_end(list, from);
-        at = append(
-            line_in(sheet, starts, heads, next, &list[from..end]),
-            out,
-            at,
-        );
-        from = end + 1;
+        at = append(line, out, at);
+        from = built.next;
     }
     Progress {
         next: from,
         len: at,
+    }
+}
+
+// The length of all lines of a list under a sheet that is indexed, or 14 where a room of so many bytes is too short for them.
+fn measure(
+    sheet: &[u8],
+    starts: &[u16; 3449],
+    heads: &[u16; 4096],
+    next: &[u16; 3449],
+    list: &[u8],
+    room: usize,
+) -> Outcome
+    requires { ⌜ Indexed (now sheet) (now starts) (now heads) (now next) ⌝ }
+    ensures { λ r. ⌜ r ≡ outcomeOf (fitting room (linesBy chosen (now (sheet .entry)) (linesOf (now (list .entry))))) ⌝ }
+{
+    let mut from = 0;
+    let mut n = 0;
+    while from < list.len() {
+        let built = next_line(sheet, starts, heads, next, list, from);
+        let line = built.line;
+        if room - n < line.len {
+            return Outcome::Refused(14);
+        }
+        n += line.len;
+        from = built.next;
+    }
+    Outcome::Done(n)
+}
+
+// All lines of a list under a sheet that is indexed, in lent room: they are measured before one is written.
+fn put_lines(
+    sheet: &[u8],
+    starts: &[u16; 3449],
+    heads: &[u16; 4096],
+    next: &[u16; 3449],
+    list: &[u8],
+    out: &mut [u8],
+) -> Outcome
+    requires { ⌜ Indexed (now sheet) (now starts) (now heads) (now next) ⌝ }
+    ensures { λ r. ⌜ r ≡ outcomeOf (fitting (length (now (out .entry))) (linesBy chosen (now (sheet .entry)) (linesOf (now (list .entry))))) ⌝ }
+    ensures { λ _. ⌜ now (out .exit) ≡ written (fitting (length (now (out .entry))) (linesBy chosen (now (sheet .entry)) (linesOf (now (list .entry))))) (now (out .entry)) ⌝ }
+{
+    match measure(sheet, starts, heads, next, list, out.len()) {
+        Outcome::Refused(number) => Outcome::Refused(number),
+        Outcome::Done(n) => {
+            part(sheet, starts, heads, next, list, 0, out);
+            Outcome::Done(n)
+        }
+    }
+}
+
+// The whole listing of a list under a sheet, in lent room.
+pub fn listing(sheet: &[u8], list: &[u8], out: &mut [u8]) -> Outcome
+    ensures { λ r. ⌜ r ≡ outcomeOf (fitting (length (now (out .entry))) (listingBy chosen (now (sheet .entry)) (now (list .entry)))) ⌝ }
+    ensures { λ _. ⌜ now (out .exit) ≡ written (fitting (length (now (out .entry))) (listingBy chosen (now (sheet .entry)) (now (list .entry)))) (now (out .entry)) ⌝ }
+{
+    let mut starts = distinct::no_links();
+    let mut heads = distinct::no_heads();
+    let mut next = distinct::no_links();
+    match begin(sheet, &mut starts, &mut heads, &mut next, list, out) {
+        Outcome::Refused(number) => Outcome::Refused(number),
+        Outcome::Done(n) => {
+            if n != 0 {
+                return Outcome::Done(n);
+            }
+            put_lines(sheet, &starts, &heads, &next, list, out)
+        }
     }
 }

@@ -40,7 +40,7 @@ loop-less c =
     let l = c .before .before .before .before .before .before .before .before .loop in
     let t = c .before .before .before .before .before .before .before .loop-test .taken in
     let s = c .before .before .before .before .before .before .before .before .before .before .before .before in
-    omega (arith, c .before .before .before .before .before .part .ensures .1 t (omega (arith, l .inv, s .pre .1)))
+    omega (arith, c .before .before .before .before .before .part .ensures .1 .0 t (omega (arith, l .inv, s .pre .1)))
 
 loop-again : tie.Need-loop-again Inv-loop μ-loop
 loop-again c = search needs

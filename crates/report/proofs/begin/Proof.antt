@@ -29,7 +29,7 @@ returns c =
     let a = x .before .before .before .before .before .before .before .args in
     let p = c .before .before .put-refused .ensures in
     rw (refused-sheet (a .sheet .now) (a .list .now) _ (x .index .ensures .0) (c .before .before .before .before .before .if1 .taken))
-    (p .1 .0, (p .1 .1, (omega (arith, p .0), λ e. absurd (not-empty (sheetWord ++ refusalRest (x .index .result)) (a .out .now) (omega arith) (sym e ∙ p .1 .0)))))
+    (p .1 .0, (p .1 .1, (omega (arith, p .0), λ e. absurd (not-empty (sheetWord ++ refusalRest (x .index .result)) (length (a .out .now)) (omega arith) (sym e ∙ p .1 .0)))))
 
 slice-aggregate-put-refused-2 : tie.Need-slice-aggregate-put-refused-2
 slice-aggregate-put-refused-2 c = search needs
@@ -47,7 +47,7 @@ returns-2 c =
     let a = x .before .before .before .before .before .before .before .args in
     let p = c .before .before .put-refused2 .ensures in
     rw (refused-list (a .sheet .now) (a .list .now) _ (x .index .ensures .0) (y .if1 .left) (c .before .before .before .before .before .if2 .taken))
-    (p .1 .0, (p .1 .1, (omega (arith, p .0), λ e. absurd (not-empty (listWord ++ refusalRest 15) (a .out .now) (omega arith) (sym e ∙ p .1 .0)))))
+    (p .1 .0, (p .1 .1, (omega (arith, p .0), λ e. absurd (not-empty (listWord ++ refusalRest 15) (length (a .out .now)) (omega arith) (sym e ∙ p .1 .0)))))
 
 returns-3 : tie.Need-returns-3
 returns-3 c =
