@@ -1,31 +1,52 @@
-# The library for C programs.
+# The library for C programs, its tools and the listing program.
 #
-#   make                             target/staticlib/libairstate.a and target/host/libairstate.so
-#   make install PREFIX=/usr/local   header, both libraries, pkg-config file; DESTDIR is put in front
+#   make                             both libraries, the listing program and the tools
 #   make run                         proves and builds the listing program and runs it on the sample sheet
-#   make test                        builds and runs everything under host/, with the listing program; a check that is
-#                                    left out is an error
+#   make test                        builds and runs everything under host/, with the listing program, an installation
+#                                    and an unpacked release; a check that is left out is an error
+#   make install PREFIX=/usr/local   header, libraries, pkg-config file, programs, man pages and documents; DESTDIR is
+#                                    put in front
+#   make dist                        target/host/airstate-VERSION-MACHINE.tar.gz with all that is installed, for hosts
+#                                    that have no prover
+#
+# rt, the Rattle kit's command, is needed unless STATIC and LISTING name what it built elsewhere.
 
 PREFIX ?= /usr/local
 DESTDIR ?=
+BINDIR ?= $(PREFIX)/bin
 INCLUDEDIR ?= $(PREFIX)/include
 LIBDIR ?= $(PREFIX)/lib
+MANDIR ?= $(PREFIX)/share/man
+DOCDIR ?= $(PREFIX)/share/doc/airstate
+DATADIR ?= $(PREFIX)/share/airstate
 LIBS ?=
-VERSION = 1.0.0
-MAJOR = 1
-
-STATIC ?= target/staticlib/libairstate.a
-LISTING ?= target/bin/listing
 BUILD ?= target/host
+
+VERSION := $(shell sed -n 's/^\#define EAS_VERSION "\(.*\)"/\1/p' include/airstate.h)
+MAJOR := $(firstword $(subst ., ,$(VERSION)))
+
+# What the prover's tool builds.
+PROVED_STATIC = target/staticlib/libairstate.a
+PROVED_LISTING = target/bin/listing
+STATIC ?= $(PROVED_STATIC)
+LISTING ?= $(PROVED_LISTING)
 SHARED = $(BUILD)/libairstate.so.$(VERSION)
+CRATES = crates.txt $(shell find crates -name '*.rt' -o -name '*.antt')
 
-.PHONY: all run install uninstall test clean
+HOST = $(MAKE) -C host LIB=$(abspath $(STATIC)) BUILD=$(abspath $(BUILD)) LISTING=$(abspath $(LISTING))
 
-all: $(STATIC) $(SHARED) $(BUILD)/airstate.pc
+.PHONY: all tools run install uninstall test dist clean
 
-# The archive is written by the prover's tool after it has proved the crates, again where one of their files is newer.
-$(STATIC): crates.txt $(shell find crates -name '*.rt' -o -name '*.antt')
-	rt staticlib airstate
+all: $(STATIC) $(SHARED) $(LISTING) tools
+
+# Both are written after all crates below them are proved, again where one of their files is newer.
+$(PROVED_STATIC): $(CRATES)
+	@host/prove.sh airstate
+	rt staticlib airstate > target/staticlib.log 2>&1 || { tail -n 20 target/staticlib.log; exit 1; }
+	@touch $@
+
+$(PROVED_LISTING): $(CRATES) | $(PROVED_STATIC)
+	@host/prove.sh listing
 	@touch $@
 
 # Only the header's entries are visible in the shared library.
@@ -34,37 +55,60 @@ $(SHARED): $(STATIC) host/airstate.map
 	$(CC) -shared $(LDFLAGS) -Wl,-soname,libairstate.so.$(MAJOR) -Wl,--version-script=host/airstate.map -Wl,-z,defs \
 		-Wl,--whole-archive $(STATIC) -Wl,--no-whole-archive $(LIBS) -o $@
 
-$(BUILD)/airstate.pc: host/airstate.pc.in
-	@mkdir -p $(@D)
-	sed -e 's|@PREFIX@|$(PREFIX)|' -e 's|@INCLUDEDIR@|$(INCLUDEDIR)|' -e 's|@LIBDIR@|$(LIBDIR)|' \
-		-e 's|@VERSION@|$(VERSION)|' $< > $@
+tools: $(STATIC)
+	@$(HOST) tools
 
-# The program is built only where every crate below it is proved.
 run:
+	@host/prove.sh listing
 	@mkdir -p target/run; cp host/samples/sample.eas target/run/sheet.eas
-	@echo 'proving the listing program: some minutes at the first time' >&2
-	@rt check listing > target/run/check.log 2>&1 || { tail -n 20 target/run/check.log; exit 1; }
 	@cd target/run && ../bin/listing < ../../crates/listing/stdin
 
-# The pkg-config file is written again, since PREFIX may differ from the build's.
+# PC_PREFIX is what the pkg-config file takes for the prefix.
+PC_PREFIX ?= $(PREFIX)
+MAN1 = $(wildcard man/*.1)
+MAN3 = $(wildcard man/*.3)
+DOCUMENTS = $(wildcard README.md CHANGELOG.md docs/*.md docs/*.svg)
+
 install: all
-	rm -f $(BUILD)/airstate.pc
-	$(MAKE) $(BUILD)/airstate.pc
-	install -d $(DESTDIR)$(INCLUDEDIR) $(DESTDIR)$(LIBDIR)/pkgconfig
+	install -d $(addprefix $(DESTDIR), $(BINDIR) $(INCLUDEDIR) $(LIBDIR)/pkgconfig $(MANDIR)/man1 $(MANDIR)/man3 \
+		$(DOCDIR)/docs $(DOCDIR)/examples $(DATADIR)/samples)
 	install -m 644 include/airstate.h $(DESTDIR)$(INCLUDEDIR)/airstate.h
 	install -m 644 $(STATIC) $(DESTDIR)$(LIBDIR)/libairstate.a
 	install -m 755 $(SHARED) $(DESTDIR)$(LIBDIR)/libairstate.so.$(VERSION)
 	ln -sf libairstate.so.$(VERSION) $(DESTDIR)$(LIBDIR)/libairstate.so.$(MAJOR)
 	ln -sf libairstate.so.$(MAJOR) $(DESTDIR)$(LIBDIR)/libairstate.so
-	install -m 644 $(BUILD)/airstate.pc $(DESTDIR)$(LIBDIR)/pkgconfig/airstate.pc
+	sed -e 's|@PREFIX@|$(PC_PREFIX)|' -e 's|@INCLUDEDIR@|$(patsubst $(PREFIX)/%,$${prefix}/%,$(INCLUDEDIR))|' \
+		-e 's|@LIBDIR@|$(patsubst $(PREFIX)/%,$${prefix}/%,$(LIBDIR))|' -e 's|@VERSION@|$(VERSION)|' host/airstate.pc.in \
+		> $(DESTDIR)$(LIBDIR)/pkgconfig/airstate.pc
+	install -m 755 $(LISTING) $(DESTDIR)$(BINDIR)/airstate-listing
+	@$(HOST) install-tools TO=$(DESTDIR)$(BINDIR)
+	install -m 644 $(MAN1) $(DESTDIR)$(MANDIR)/man1
+	install -m 644 $(MAN3) $(DESTDIR)$(MANDIR)/man3
+	install -m 644 $(filter-out docs/%, $(DOCUMENTS)) $(DESTDIR)$(DOCDIR)
+	install -m 644 $(filter docs/%, $(DOCUMENTS)) $(DESTDIR)$(DOCDIR)/docs
+	install -m 644 host/tools/example.c $(DESTDIR)$(DOCDIR)/examples
+	install -m 644 $(wildcard host/samples/*.csv host/samples/*.eas) $(DESTDIR)$(DATADIR)/samples
 
 uninstall:
 	rm -f $(DESTDIR)$(INCLUDEDIR)/airstate.h $(DESTDIR)$(LIBDIR)/pkgconfig/airstate.pc
 	rm -f $(DESTDIR)$(LIBDIR)/libairstate.a $(DESTDIR)$(LIBDIR)/libairstate.so*
+	rm -f $(addprefix $(DESTDIR)$(BINDIR)/airstate-, listing sheet plot checklist)
+	rm -f $(addprefix $(DESTDIR)$(MANDIR)/man1/, $(notdir $(MAN1))) $(addprefix $(DESTDIR)$(MANDIR)/man3/, $(notdir $(MAN3)))
+	rm -rf $(DESTDIR)$(DOCDIR) $(DESTDIR)$(DATADIR)
+
+# The tree of an installation that may stand anywhere.
+RELEASE = airstate-$(VERSION)-$(shell uname -m)
+
+dist:
+	rm -rf $(BUILD)/$(RELEASE)
+	$(MAKE) install DESTDIR=$(abspath $(BUILD))/$(RELEASE) PREFIX= PC_PREFIX='$$$${pcfiledir}/../..'
+	tar -C $(BUILD) --owner=0 --group=0 --sort=name -czf $(BUILD)/$(RELEASE).tar.gz $(RELEASE)
+	@echo $(BUILD)/$(RELEASE).tar.gz
 
 test: all
-	$(MAKE) -C host test STRICT=1 LIB=$(abspath $(STATIC)) BUILD=$(abspath $(BUILD)) LISTING=$(abspath $(LISTING))
-	host/tests/install_test.sh $(abspath $(STATIC))
+	$(HOST) test STRICT=1
+	STRICT=1 host/tests/install_test.sh $(abspath $(STATIC)) $(abspath $(LISTING)) $(abspath $(BUILD))
+	STRICT=1 host/tests/man_test.sh
 
 clean:
 	rm -rf $(BUILD)

@@ -6,6 +6,7 @@
 #include <stdio.h>
 #include <stdlib.h>
 
+/* clang-format off: a row of the listing a line */
 const printed_piece printed_temperature[BANDS][PIECES] = {
     { /* low */
         { 310, 950000,
@@ -83,6 +84,7 @@ const char *const printed_entropy[BANDS][BICUBIC_TERMS] = {
     { "2.01858E01", "-3.13458E00", "1.03619E01", "1.87767E00", "-1.72922E-01",
       "1.12174E-01", "1.28626E-02", "-5.43557E00", "-8.71048E-01", "2.01789E00" },
 };
+/* clang-format on */
 
 int64_t numeral_units(const char *numeral)
 {

@@ -21,6 +21,9 @@ int refuse_file(const char *name);
 /* Writes bytes to an output. 0 is success. */
 int write_output(const char *path, const void *bytes, size_t n);
 
+/* The folder of the shipped sample sheets: that of the installation which the program stands in, else the source's. */
+const char *samples_folder(void);
+
 /* Reads at most SHEET_MOST + 1 bytes, enough for eas_check to judge a longer file by. 0 is success. */
 int load_bytes(const char *path, uint8_t sheet[SHEET_MOST + 1], size_t *n);
 
