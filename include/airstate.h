@@ -1,7 +1,7 @@
 /* Equilibrium air: temperature, entropy and the state sheet.
  *
- * A sheet is the bytes of a file as docs/FORMAT.md has it: named states, each with a kind and two values. A spelled name
- * is a name by RFC 3986: letters, digits and - . _ ~ stand for themselves, any other byte is % and two hexadecimal
+ * A sheet is the bytes of a file as docs/FORMAT.md has it: named states, each with a kind and two values. A spelled
+ * name is a name by RFC 3986: letters, digits and - . _ ~ stand for themselves, any other byte is % and two hexadecimal
  * digits. A name itself is 1 to 40 bytes of any value.
  *
  * kind  first value                    second value                   answer
@@ -65,9 +65,9 @@ enum {
     /* a state */
     EAS_FIRST_OUT_OF_RANGE = 10,   /* the first value is out of its range */
     EAS_DENSITY_OUT_OF_RANGE = 11, /* the density is out of its range */
-    EAS_Z_OUT_OF_RANGE = 12,       /* a temperature's z is below -1,000,000 or above 3,000,000; an entropy's is above its
-                                      band's limit, in a join above that of either edge */
-    EAS_FIT_OUT_OF_RANGE = 13,     /* a temperature's G is below 0 or above 19,600,000,000 */
+    EAS_Z_OUT_OF_RANGE = 12,   /* a temperature's z is below -1,000,000 or above 3,000,000; an entropy's is above its
+                                  band's limit, in a join above that of either edge */
+    EAS_FIT_OUT_OF_RANGE = 13, /* a temperature's G is below 0 or above 19,600,000,000 */
     /* a text */
     EAS_ROOM_TOO_SHORT = 14, /* the room is shorter than the text */
     EAS_LIST_TOO_LONG = 15   /* the name list is over 65,536 bytes */
@@ -123,8 +123,8 @@ typedef struct {
 
 enum { EAS_CARRIES_LOGS = 1, EAS_CARRIES_X = 2, EAS_CARRIES_LOW = 4, EAS_CARRIES_HIGH = 8, EAS_CARRIES_VALUE = 16 };
 
-/* Every field that is not carried is 0, so that two answers compare field by field. A refusal 12 carries the logarithms,
- * a refusal 13 the fit too; the others carry nothing. */
+/* Every field that is not carried is 0, so that two answers compare field by field. A refusal 12 carries the
+ * logarithms, a refusal 13 the fit too; the others carry nothing. */
 typedef struct {
     uint32_t number;    /* 0, or the refusal's number */
     uint32_t letter;    /* 'T' temperature, 'S' entropy; 0 where nothing was worked out */

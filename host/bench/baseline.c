@@ -185,7 +185,8 @@ eas_text baseline_spell(const uint8_t *name, size_t n, uint8_t *out, size_t room
 }
 
 static baseline_answer temperature(uint64_t pressure, uint64_t density) {
-    double x = log10((double)pressure / (double)STANDARD_PRESSURE), y = log10((double)density / (double)STANDARD_DENSITY);
+    double x = log10((double)pressure / (double)STANDARD_PRESSURE),
+           y = log10((double)density / (double)STANDARD_DENSITY);
     baseline_answer a = {0, 'T', y, x - y, 0};
     if (a.z < MILLIONTHS(LEAST_Z) || a.z > MILLIONTHS(MOST_Z)) {
         a.number = 12;

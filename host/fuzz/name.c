@@ -5,8 +5,8 @@
 #include <string.h>
 
 #include "bench/baseline.h"
-#include "tools/record.h"
 #include "guard.h"
+#include "tools/record.h"
 
 static guard input_guard, output_guard, name_guard;
 

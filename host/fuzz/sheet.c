@@ -13,10 +13,10 @@
 #include <string.h>
 
 #include "bench/baseline.h"
-#include "tools/record.h"
-#include "tools/limits.h"
 #include "guard.h"
 #include "judge.h"
+#include "tools/limits.h"
+#include "tools/record.h"
 
 static guard sheet_guard, spelled_guard, output_guard;
 

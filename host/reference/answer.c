@@ -9,8 +9,7 @@
 #include "logarithm.h"
 #include "weight.h"
 
-const char *answers_differ(const eas_answer *a, const eas_answer *b)
-{
+const char *answers_differ(const eas_answer *a, const eas_answer *b) {
     if (a->number != b->number)
         return "number";
     if (a->letter != b->letter)
@@ -36,14 +35,12 @@ const char *answers_differ(const eas_answer *a, const eas_answer *b)
     return NULL;
 }
 
-static const char *judge_refusal(uint32_t number, const eas_answer *answer)
-{
-    eas_answer expected = { .number = number };
+static const char *judge_refusal(uint32_t number, const eas_answer *answer) {
+    eas_answer expected = {.number = number};
     return answers_differ(&expected, answer);
 }
 
-static bool taken(uint64_t over, uint64_t under, int64_t logarithm)
-{
+static bool taken(uint64_t over, uint64_t under, int64_t logarithm) {
     ratio_logarithm l;
     logarithm_init(&l);
     logarithm_of(&l, over, under);
@@ -53,8 +50,7 @@ static bool taken(uint64_t over, uint64_t under, int64_t logarithm)
 }
 
 /* Free answer three and demand 3 on the temperature of a fit. */
-static const char *judge_kelvin(const temperature_piece *piece, const eas_answer *answer)
-{
+static const char *judge_kelvin(const temperature_piece *piece, const eas_answer *answer) {
     if (answer->value <= 0)
         return "temperature not above 0";
     int64_t g = (int64_t)floor_divide(answer->low.fit, 10000);
@@ -71,8 +67,7 @@ static const char *judge_kelvin(const temperature_piece *piece, const eas_answer
 }
 
 /* A temperature whose Z is above PERFECT_LIMIT; expected holds the logarithms. */
-static const char *judge_fitted(eas_answer *expected, const eas_answer *answer)
-{
+static const char *judge_fitted(eas_answer *expected, const eas_answer *answer) {
     const temperature_piece *piece = piece_at(expected->y, expected->z);
     int64_t weight = piece->weighed ? answer->low.weight : 0;
     if (piece->weighed && !weight_allowed(weight, exponent(piece->exponent, expected->y, expected->z)))
@@ -90,13 +85,12 @@ static const char *judge_fitted(eas_answer *expected, const eas_answer *answer)
     return differs != NULL ? differs : judge_kelvin(piece, answer);
 }
 
-static const char *judge_temperature(uint64_t pressure, uint64_t density, const eas_answer *answer)
-{
+static const char *judge_temperature(uint64_t pressure, uint64_t density, const eas_answer *answer) {
     if (!taken(pressure, P0, answer->x))
         return "X against free answer one";
     if (!taken(density, D0, answer->y))
         return "Y against free answer one";
-    eas_answer expected = { .letter = 'T', .carries = EAS_CARRIES_LOGS | EAS_CARRIES_X };
+    eas_answer expected = {.letter = 'T', .carries = EAS_CARRIES_LOGS | EAS_CARRIES_X};
     expected.x = answer->x;
     expected.y = answer->y;
     expected.z = answer->x - answer->y;
@@ -111,13 +105,12 @@ static const char *judge_temperature(uint64_t pressure, uint64_t density, const 
     return answers_differ(&expected, answer);
 }
 
-static const char *judge_entropy(uint64_t energy, uint64_t density, const eas_answer *answer)
-{
+static const char *judge_entropy(uint64_t energy, uint64_t density, const eas_answer *answer) {
     if (!taken(density, D0, answer->y))
         return "Y against free answer one";
     if (!taken(energy, E0, answer->z))
         return "Z against free answer one";
-    eas_answer expected = { .letter = 'S', .carries = EAS_CARRIES_LOGS, .y = answer->y, .z = answer->z };
+    eas_answer expected = {.letter = 'S', .carries = EAS_CARRIES_LOGS, .y = answer->y, .z = answer->z};
     if (entropy_beyond(expected.y, expected.z)) {
         expected.number = 12;
         return answers_differ(&expected, answer);
@@ -130,8 +123,7 @@ static const char *judge_entropy(uint64_t energy, uint64_t density, const eas_an
     return differs;
 }
 
-const char *judge_answer(uint8_t kind, uint64_t first, uint64_t second, const eas_answer *answer)
-{
+const char *judge_answer(uint8_t kind, uint64_t first, uint64_t second, const eas_answer *answer) {
     if (kind != 1 && kind != 2)
         return judge_refusal(6, answer);
     if (kind == 1 ? first < P_MIN || first > P_MAX : first < E_MIN || first > E_MAX)

@@ -9,8 +9,7 @@ typedef struct {
     mpfr_t low, high; /* bounds of the exact fit in units of 10^-28 */
 } exact_fit;
 
-static void set_wide(mpfr_t out, wide a)
-{
+static void set_wide(mpfr_t out, wide a) {
     mpz_t z;
     mpz_init(z);
     wide_to_mpz(z, a);
@@ -19,8 +18,7 @@ static void set_wide(mpfr_t out, wide a)
 }
 
 /* a + b·weight/10^10 with the weight between bounds. */
-static void enclose_fit(exact_fit *fit, wide a, wide b, const mpfr_t weight_low, const mpfr_t weight_high)
-{
+static void enclose_fit(exact_fit *fit, wide a, wide b, const mpfr_t weight_low, const mpfr_t weight_high) {
     mpfr_t part;
     mpfr_init2(part, mpfr_get_prec(weight_low));
     mpfr_set_prec(fit->low, mpfr_get_prec(weight_low));
@@ -37,8 +35,7 @@ static void enclose_fit(exact_fit *fit, wide a, wide b, const mpfr_t weight_low,
 }
 
 /* -1, 0, 1: the exact fit is below, may be at, or is above number·10^zeros. */
-static int compare_fit(const exact_fit *fit, int64_t number, unsigned zeros)
-{
+static int compare_fit(const exact_fit *fit, int64_t number, unsigned zeros) {
     mpz_t bound;
     mpz_init(bound);
     mpz_ui_pow_ui(bound, 10, zeros);
@@ -48,8 +45,7 @@ static int compare_fit(const exact_fit *fit, int64_t number, unsigned zeros)
     return low > 0 ? 1 : high < 0 ? -1 : 0;
 }
 
-static int64_t whole_millionths(const mpfr_t fit)
-{
+static int64_t whole_millionths(const mpfr_t fit) {
     mpz_t whole, scale;
     mpz_inits(whole, scale, NULL);
     mpfr_get_z(whole, fit, MPFR_RNDD);
@@ -61,8 +57,7 @@ static int64_t whole_millionths(const mpfr_t fit)
 }
 
 /* Null: holds. *open is set where bounds that are farther from the value than needed leave it undecided. */
-static const char *claim_at(const exact_fit *fit, int64_t g, ratio_logarithm *kelvin, bool last, bool *open)
-{
+static const char *claim_at(const exact_fit *fit, int64_t g, ratio_logarithm *kelvin, bool last, bool *open) {
     int under = compare_fit(fit, g - FIT_DISTANCE, UNIT_ZEROS), over = compare_fit(fit, g + FIT_DISTANCE, UNIT_ZEROS);
     if (under < 0 || over > 0)
         return "G is over 10,000 units from the exact fit";
@@ -76,8 +71,7 @@ static const char *claim_at(const exact_fit *fit, int64_t g, ratio_logarithm *ke
     return NULL;
 }
 
-const char *fit_claim(const temperature_piece *piece, int64_t y, int64_t z, int64_t fit, ratio_logarithm *kelvin)
-{
+const char *fit_claim(const temperature_piece *piece, int64_t y, int64_t z, int64_t fit, ratio_logarithm *kelvin) {
     wide a = exact_bicubic(piece->a, y, z), b = piece->weighed ? exact_bicubic(piece->b, y, z) : 0;
     wide q = piece->weighed ? exact_exponent(piece->exponent, y, z) : 0;
     const char *wrong = NULL;

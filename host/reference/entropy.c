@@ -3,20 +3,17 @@
 
 enum { R_UNITS = 28706, LOG_TEN = 2302585, START = 67792004 };
 
-static wide perfect_rise(int64_t y, int64_t z)
-{
+static wide perfect_rise(int64_t y, int64_t z) {
     return (5 * (wide)(z - 400000) - 2 * (wide)y) * R_UNITS * LOG_TEN;
 }
 
-static wide value_at(int64_t y, int64_t z)
-{
+static wide value_at(int64_t y, int64_t z) {
     if (z <= ENTROPY_PERFECT_LIMIT)
         return START + floor_divide(perfect_rise(y, z), 20000000000);
     return floor_divide(R_UNITS * bicubic(entropy_coefficients(band_of(y)), y, z), 100000000);
 }
 
-wide entropy_value(int64_t y, int64_t z)
-{
+wide entropy_value(int64_t y, int64_t z) {
     density_strip strip;
     if (!strip_of(y, &strip))
         return value_at(y, z);
@@ -24,23 +21,20 @@ wide entropy_value(int64_t y, int64_t z)
     return low + floor_divide((high - low) * (y - strip.lower), strip.upper - strip.lower);
 }
 
-bool entropy_beyond(int64_t y, int64_t z)
-{
+bool entropy_beyond(int64_t y, int64_t z) {
     density_strip strip;
     if (!strip_of(y, &strip))
         return z > entropy_limit(band_of(y));
     return z > entropy_limit(band_of(strip.lower)) || z > entropy_limit(band_of(strip.upper));
 }
 
-static void set_fraction(mpq_t out, wide over, unsigned decimals)
-{
+static void set_fraction(mpq_t out, wide over, unsigned decimals) {
     wide_to_mpz(mpq_numref(out), over);
     mpz_ui_pow_ui(mpq_denref(out), 10, decimals);
     mpq_canonicalize(out);
 }
 
-static void exact_at(mpq_t out, int64_t y, int64_t z)
-{
+static void exact_at(mpq_t out, int64_t y, int64_t z) {
     if (z <= ENTROPY_PERFECT_LIMIT) {
         /* a half of 10^-10 is 5 of 10^-11 */
         set_fraction(out, START * (wide)100000000000 + 5 * perfect_rise(y, z), 11);
@@ -50,8 +44,7 @@ static void exact_at(mpq_t out, int64_t y, int64_t z)
     set_fraction(out, R_UNITS * exact_bicubic(entropy_coefficients(band_of(y)), y, z), 18 + 8);
 }
 
-static void exact_entropy(mpq_t out, int64_t y, int64_t z)
-{
+static void exact_entropy(mpq_t out, int64_t y, int64_t z) {
     density_strip strip;
     if (!strip_of(y, &strip)) {
         exact_at(out, y, z);
@@ -69,8 +62,7 @@ static void exact_entropy(mpq_t out, int64_t y, int64_t z)
     mpq_clears(low, high, part, NULL);
 }
 
-bool entropy_near_exact(int64_t value, int64_t y, int64_t z)
-{
+bool entropy_near_exact(int64_t value, int64_t y, int64_t z) {
     mpq_t exact, bound;
     mpq_inits(exact, bound, NULL);
     exact_entropy(exact, y, z);

@@ -5,14 +5,12 @@
 static temperature_piece pieces[BANDS][PIECES];
 static int64_t entropy_rows[BANDS][BICUBIC_TERMS];
 
-static void read_numerals(int64_t *out, const char *const *numerals, int count)
-{
+static void read_numerals(int64_t *out, const char *const *numerals, int count) {
     for (int i = 0; i < count; i++)
         out[i] = numerals[i] == NULL ? 0 : numeral_units(numerals[i]);
 }
 
-static void read_tables_once(void)
-{
+static void read_tables_once(void) {
     static bool done;
     if (done)
         return;
@@ -33,14 +31,12 @@ static void read_tables_once(void)
     done = true;
 }
 
-density_band band_of(int64_t y)
-{
+density_band band_of(int64_t y) {
     return y <= -4500000 ? LOW_BAND : y <= -500000 ? MIDDLE_BAND : HIGH_BAND;
 }
 
-bool strip_of(int64_t y, density_strip *strip)
-{
-    static const density_strip strips[] = { { -4525000, -4475000 }, { -505000, -495000 } };
+bool strip_of(int64_t y, density_strip *strip) {
+    static const density_strip strips[] = {{-4525000, -4475000}, {-505000, -495000}};
     for (int i = 0; i < 2; i++) {
         if (strips[i].lower < y && y < strips[i].upper) {
             *strip = strips[i];
@@ -50,13 +46,11 @@ bool strip_of(int64_t y, density_strip *strip)
     return false;
 }
 
-int64_t entropy_limit(density_band band)
-{
+int64_t entropy_limit(density_band band) {
     return band == LOW_BAND ? 3690000 : band == MIDDLE_BAND ? 3400000 : 3000000;
 }
 
-const temperature_piece *piece_at(int64_t y, int64_t z)
-{
+const temperature_piece *piece_at(int64_t y, int64_t z) {
     read_tables_once();
     density_band band = band_of(y);
     int i = 0;
@@ -65,20 +59,17 @@ const temperature_piece *piece_at(int64_t y, int64_t z)
     return &pieces[band][i];
 }
 
-const int64_t *entropy_coefficients(density_band band)
-{
+const int64_t *entropy_coefficients(density_band band) {
     read_tables_once();
     return entropy_rows[band];
 }
 
 /* Document 01's mul. */
-static wide mul(wide a, int64_t b)
-{
+static wide mul(wide a, int64_t b) {
     return floor_divide(a * b, 1000000);
 }
 
-wide bicubic(const int64_t c[BICUBIC_TERMS], int64_t y, int64_t z)
-{
+wide bicubic(const int64_t c[BICUBIC_TERMS], int64_t y, int64_t z) {
     wide constant = c[0] + mul(c[1], y);
     wide by_z = mul(c[2] + mul(c[3], y), z);
     wide by_yy = mul(mul(c[4] + mul(c[5], z) + mul(c[6], y), y), y);
@@ -86,13 +77,11 @@ wide bicubic(const int64_t c[BICUBIC_TERMS], int64_t y, int64_t z)
     return constant + by_z + by_yy + by_zz;
 }
 
-wide exponent(const int64_t c[EXPONENT_TERMS], int64_t y, int64_t z)
-{
+wide exponent(const int64_t c[EXPONENT_TERMS], int64_t y, int64_t z) {
     return c[0] + mul(c[1], y) + mul(c[2], z) + mul(mul(c[3], y), z);
 }
 
-wide fitted(const temperature_piece *piece, int64_t y, int64_t z, int64_t weight)
-{
+wide fitted(const temperature_piece *piece, int64_t y, int64_t z, int64_t weight) {
     wide a = bicubic(piece->a, y, z);
     if (!piece->weighed)
         return a;
@@ -101,8 +90,7 @@ wide fitted(const temperature_piece *piece, int64_t y, int64_t z, int64_t weight
 
 /* A coefficient in units times a product of n logarithms in millionths, as units of 10^-28: the missing 3 - n
  * logarithms count as 1,000,000 each. |coefficient| < 2^41, |y|, |z| < 2^24, so that each term is below 2^113. */
-wide exact_bicubic(const int64_t c[BICUBIC_TERMS], int64_t y, int64_t z)
-{
+wide exact_bicubic(const int64_t c[BICUBIC_TERMS], int64_t y, int64_t z) {
     const wide one = 1000000, wy = y, wz = z;
     wide sum = c[0] * one * one * one;
     sum += (c[1] * wy + c[2] * wz) * one * one;
@@ -111,8 +99,7 @@ wide exact_bicubic(const int64_t c[BICUBIC_TERMS], int64_t y, int64_t z)
     return sum + c[8] * wy * wz * wz + c[9] * wz * wz * wz;
 }
 
-wide exact_exponent(const int64_t c[EXPONENT_TERMS], int64_t y, int64_t z)
-{
+wide exact_exponent(const int64_t c[EXPONENT_TERMS], int64_t y, int64_t z) {
     const wide one = 1000000, wy = y, wz = z;
     return c[0] * one * one + (c[1] * wy + c[2] * wz) * one + c[3] * wy * wz;
 }

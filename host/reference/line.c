@@ -5,9 +5,8 @@
 
 #include "name.h"
 
-listing_line line_of(const uint8_t *spelled, size_t m, const eas_answer *answer)
-{
-    written_name shown = { .length = 1, .bytes = { '?' } };
+listing_line line_of(const uint8_t *spelled, size_t m, const eas_answer *answer) {
+    written_name shown = {.length = 1, .bytes = {'?'}};
     read_name name = name_read(spelled, m);
     if (name.number == 0)
         shown = name_write(name.bytes, name.length);
@@ -24,9 +23,8 @@ listing_line line_of(const uint8_t *spelled, size_t m, const eas_answer *answer)
     return line;
 }
 
-eas_mark mark_of(const eas_answer *answer)
-{
+eas_mark mark_of(const eas_answer *answer) {
     if (answer->number != 0)
-        return (eas_mark){ .blank = answer->number };
-    return (eas_mark){ .point = { .across = (double)(answer->y + 7000000), .up = (double)answer->value } };
+        return (eas_mark){.blank = answer->number};
+    return (eas_mark){.point = {.across = (double)(answer->y + 7000000), .up = (double)answer->value}};
 }

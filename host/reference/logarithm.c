@@ -5,20 +5,17 @@
 
 enum { FIRST_PRECISION = 64, MILLION = 1000000, KEPT = 61 };
 
-void logarithm_init(ratio_logarithm *l)
-{
+void logarithm_init(ratio_logarithm *l) {
     mpfr_init2(l->low, FIRST_PRECISION);
     mpfr_init2(l->high, FIRST_PRECISION);
 }
 
-void logarithm_clear(ratio_logarithm *l)
-{
+void logarithm_clear(ratio_logarithm *l) {
     mpfr_clear(l->low);
     mpfr_clear(l->high);
 }
 
-static void enclose(mpfr_t low, mpfr_t high, uint64_t number)
-{
+static void enclose(mpfr_t low, mpfr_t high, uint64_t number) {
     mpfr_t exact;
     mpfr_init2(exact, 64);
     mpfr_set_ui(exact, number, MPFR_RNDN);
@@ -34,8 +31,7 @@ typedef struct {
 } kept_logarithm;
 
 /* Denominators are few, so that their bounds are kept. */
-static const kept_logarithm *keep(uint64_t number, mpfr_prec_t precision)
-{
+static const kept_logarithm *keep(uint64_t number, mpfr_prec_t precision) {
     static kept_logarithm table[KEPT];
     kept_logarithm *kept = &table[number % KEPT];
     if (kept->number == number && mpfr_get_prec(kept->low) == precision)
@@ -48,8 +44,7 @@ static const kept_logarithm *keep(uint64_t number, mpfr_prec_t precision)
     return kept;
 }
 
-static void enclose_ratio(ratio_logarithm *l, mpfr_prec_t precision)
-{
+static void enclose_ratio(ratio_logarithm *l, mpfr_prec_t precision) {
     const kept_logarithm *under = keep(l->under, precision);
     mpfr_set_prec(l->low, precision);
     mpfr_set_prec(l->high, precision);
@@ -60,16 +55,14 @@ static void enclose_ratio(ratio_logarithm *l, mpfr_prec_t precision)
     mpfr_mul_ui(l->high, l->high, MILLION, MPFR_RNDU);
 }
 
-void logarithm_of(ratio_logarithm *l, uint64_t over, uint64_t under)
-{
+void logarithm_of(ratio_logarithm *l, uint64_t over, uint64_t under) {
     l->over = over;
     l->under = under;
     enclose_ratio(l, FIRST_PRECISION);
 }
 
 /* Whether over/under is 10^tens, in whole numbers. */
-static bool is_power_of_ten(const ratio_logarithm *l, int64_t tens)
-{
+static bool is_power_of_ten(const ratio_logarithm *l, int64_t tens) {
     if (tens < -19 || tens > 19)
         return false;
     mpz_t power, left, right;
@@ -83,8 +76,7 @@ static bool is_power_of_ten(const ratio_logarithm *l, int64_t tens)
     return equal;
 }
 
-int logarithm_compare(ratio_logarithm *l, int64_t whole)
-{
+int logarithm_compare(ratio_logarithm *l, int64_t whole) {
     for (;;) {
         if (mpfr_cmp_si(l->low, whole) > 0)
             return 1;
@@ -96,8 +88,7 @@ int logarithm_compare(ratio_logarithm *l, int64_t whole)
     }
 }
 
-bool logarithm_allowed(ratio_logarithm *l, int64_t taken)
-{
+bool logarithm_allowed(ratio_logarithm *l, int64_t taken) {
     if (taken < -100 * MILLION || taken > 100 * MILLION)
         return false;
     return logarithm_compare(l, taken - 1) > 0 && logarithm_compare(l, taken + 1) < 0;

@@ -3,15 +3,13 @@
 #include <stdbool.h>
 
 /* A byte that stands for itself. */
-static bool is_plain(uint8_t byte)
-{
+static bool is_plain(uint8_t byte) {
     return (byte >= 'a' && byte <= 'z') || (byte >= 'A' && byte <= 'Z') || (byte >= '0' && byte <= '9') ||
            byte == '-' || byte == '.' || byte == '_' || byte == '~';
 }
 
 /* The value of a hexadecimal digit of either case, or -1. */
-static int digit_value(uint8_t byte)
-{
+static int digit_value(uint8_t byte) {
     if (byte >= '0' && byte <= '9')
         return byte - '0';
     if (byte >= 'A' && byte <= 'F')
@@ -21,9 +19,8 @@ static int digit_value(uint8_t byte)
     return -1;
 }
 
-read_name name_read(const uint8_t *spelled, size_t n)
-{
-    read_name wrong = { .number = 7 }, result = { 0 };
+read_name name_read(const uint8_t *spelled, size_t n) {
+    read_name wrong = {.number = 7}, result = {0};
     size_t length = 0;
     for (size_t i = 0; i < n; i++) {
         int byte = spelled[i];
@@ -40,17 +37,16 @@ read_name name_read(const uint8_t *spelled, size_t n)
         length++;
     }
     if (length == 0 || length > NAME_MAX_BYTES)
-        return (read_name){ .number = 8 };
+        return (read_name){.number = 8};
     result.length = length;
     return result;
 }
 
-written_name name_write(const uint8_t *name, size_t n)
-{
+written_name name_write(const uint8_t *name, size_t n) {
     static const char digits[] = "0123456789ABCDEF";
-    written_name result = { 0 };
+    written_name result = {0};
     if (n == 0 || n > NAME_MAX_BYTES)
-        return (written_name){ .number = 8 };
+        return (written_name){.number = 8};
     for (size_t i = 0; i < n; i++) {
         if (is_plain(name[i])) {
             result.bytes[result.length++] = name[i];

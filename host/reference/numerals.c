@@ -6,7 +6,7 @@
 #include <stdio.h>
 #include <stdlib.h>
 
-/* clang-format off: a row of the listing a line */
+/* clang-format off */
 const printed_piece printed_temperature[BANDS][PIECES] = {
     { /* low */
         { 310, 950000,
@@ -86,8 +86,7 @@ const char *const printed_entropy[BANDS][BICUBIC_TERMS] = {
 };
 /* clang-format on */
 
-int64_t numeral_units(const char *numeral)
-{
+int64_t numeral_units(const char *numeral) {
     const char *at = numeral;
     int negative = *at == '-', after_point = 0, point = 0;
     int64_t digits = 0;

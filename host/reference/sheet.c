@@ -5,16 +5,14 @@
 
 #include "name.h"
 
-static uint64_t high_byte_first(const uint8_t *bytes, int count)
-{
+static uint64_t high_byte_first(const uint8_t *bytes, int count) {
     uint64_t number = 0;
     for (int i = 0; i < count; i++)
         number = number << 8 | bytes[i];
     return number;
 }
 
-static bool seen_earlier(const parsed_sheet *parsed, const uint8_t *sheet, const eas_record *record)
-{
+static bool seen_earlier(const parsed_sheet *parsed, const uint8_t *sheet, const eas_record *record) {
     for (size_t i = 0; i < parsed->count; i++) {
         const eas_record *other = &parsed->records[i];
         if (other->length == record->length && memcmp(sheet + other->start, sheet + record->start, record->length) == 0)
@@ -24,11 +22,10 @@ static bool seen_earlier(const parsed_sheet *parsed, const uint8_t *sheet, const
 }
 
 /* Reads the record at *at and moves past it; gives its refusal or 0. */
-static uint32_t parse_record(parsed_sheet *out, const uint8_t *sheet, size_t n, size_t *at)
-{
+static uint32_t parse_record(parsed_sheet *out, const uint8_t *sheet, size_t n, size_t *at) {
     if (*at == n)
         return 4;
-    eas_record record = { .start = *at + 1, .length = sheet[*at] };
+    eas_record record = {.start = *at + 1, .length = sheet[*at]};
     if (record.length == 0 || record.length > NAME_MAX_BYTES)
         return 5;
     if (n - record.start < record.length + 1 + 8 + 8)
@@ -46,8 +43,7 @@ static uint32_t parse_record(parsed_sheet *out, const uint8_t *sheet, size_t n, 
     return 0;
 }
 
-static uint32_t first_refusal(parsed_sheet *out, const uint8_t *sheet, size_t n)
-{
+static uint32_t first_refusal(parsed_sheet *out, const uint8_t *sheet, size_t n) {
     if (n > SHEET_MAX_BYTES)
         return 1;
     if (n < 7 || memcmp(sheet, "EAS", 3) != 0)
@@ -64,25 +60,23 @@ static uint32_t first_refusal(parsed_sheet *out, const uint8_t *sheet, size_t n)
     return at == n ? 0 : 4;
 }
 
-void sheet_parse(parsed_sheet *out, const uint8_t *sheet, size_t n)
-{
+void sheet_parse(parsed_sheet *out, const uint8_t *sheet, size_t n) {
     out->count = 0;
     out->number = first_refusal(out, sheet, n);
     if (out->number != 0)
         out->count = 0;
 }
 
-eas_record sheet_find(const parsed_sheet *parsed, const uint8_t *sheet, const uint8_t *spelled, size_t m)
-{
+eas_record sheet_find(const parsed_sheet *parsed, const uint8_t *sheet, const uint8_t *spelled, size_t m) {
     if (parsed->number != 0)
-        return (eas_record){ .number = parsed->number };
+        return (eas_record){.number = parsed->number};
     read_name name = name_read(spelled, m);
     if (name.number != 0)
-        return (eas_record){ .number = name.number };
+        return (eas_record){.number = name.number};
     for (size_t i = 0; i < parsed->count; i++) {
         const eas_record *record = &parsed->records[i];
         if (record->length == name.length && memcmp(sheet + record->start, name.bytes, name.length) == 0)
             return *record;
     }
-    return (eas_record){ .number = 9 };
+    return (eas_record){.number = 9};
 }

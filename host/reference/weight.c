@@ -3,16 +3,14 @@
 enum { TERMS_FIRST = 128, TERMS_LATER = 400, TOLERANCE = 10 };
 static const int64_t ONE = 10000000000;
 
-void weights_init(ideal_weights *w)
-{
+void weights_init(ideal_weights *w) {
     for (int i = 0; i < TERM_COUNTS; i++) {
         mpfr_init2(w->low[i], FIRST_WEIGHT_PRECISION);
         mpfr_init2(w->high[i], FIRST_WEIGHT_PRECISION);
     }
 }
 
-void weights_clear(ideal_weights *w)
-{
+void weights_clear(ideal_weights *w) {
     for (int i = 0; i < TERM_COUNTS; i++) {
         mpfr_clear(w->low[i]);
         mpfr_clear(w->high[i]);
@@ -22,8 +20,7 @@ void weights_clear(ideal_weights *w)
 /* The sums of u^j/j! for j up to 128 and up to 400, every step rounded the same way. The rest after a term that is
  * below 2^-(precision + 8) of the sum, with j at least 2u, is at most that term: it is left out below and counted
  * once above. */
-static void sum_series(mpfr_t first, mpfr_t later, const mpfr_t u, mpfr_rnd_t rounding)
-{
+static void sum_series(mpfr_t first, mpfr_t later, const mpfr_t u, mpfr_rnd_t rounding) {
     mpfr_prec_t precision = mpfr_get_prec(u);
     unsigned long twice = 2 * mpfr_get_ui(u, MPFR_RNDU);
     mpfr_t term;
@@ -50,8 +47,7 @@ static void sum_series(mpfr_t first, mpfr_t later, const mpfr_t u, mpfr_rnd_t ro
 }
 
 /* 10^10/(1 + sum), rounded; the sum is overwritten. */
-static void reciprocal(mpfr_t out, mpfr_t sum, mpfr_rnd_t of_sum, mpfr_rnd_t of_result)
-{
+static void reciprocal(mpfr_t out, mpfr_t sum, mpfr_rnd_t of_sum, mpfr_rnd_t of_result) {
     mpfr_t one;
     mpfr_init2(one, 64);
     mpfr_set_si(one, ONE, MPFR_RNDN);
@@ -60,8 +56,7 @@ static void reciprocal(mpfr_t out, mpfr_t sum, mpfr_rnd_t of_sum, mpfr_rnd_t of_
     mpfr_clear(one);
 }
 
-static void subtract_from_one(mpfr_t low, mpfr_t high)
-{
+static void subtract_from_one(mpfr_t low, mpfr_t high) {
     mpfr_neg(low, low, MPFR_RNDN);
     mpfr_neg(high, high, MPFR_RNDN);
     mpfr_add_si(low, low, ONE, MPFR_RNDU);
@@ -70,8 +65,7 @@ static void subtract_from_one(mpfr_t low, mpfr_t high)
 }
 
 /* |q| / 10^decimals, rounded. */
-static void set_size(mpfr_t u, wide q, unsigned decimals, mpfr_rnd_t rounding)
-{
+static void set_size(mpfr_t u, wide q, unsigned decimals, mpfr_rnd_t rounding) {
     mpz_t size, scale;
     mpq_t fraction;
     mpz_inits(size, scale, NULL);
@@ -88,8 +82,7 @@ static void set_size(mpfr_t u, wide q, unsigned decimals, mpfr_rnd_t rounding)
 
 /* Quick bounds of the sums. Up to u = 24 the rest of the series after 128 terms is below 2·24^129/129! < 2^-100. From
  * there on every sum is at least S(24) with 128 terms, above 26,000,000,000, and nothing is said about how large. */
-static void quick_sums(mpfr_t low[TERM_COUNTS], mpfr_t high[TERM_COUNTS], const mpfr_t u_low, const mpfr_t u_high)
-{
+static void quick_sums(mpfr_t low[TERM_COUNTS], mpfr_t high[TERM_COUNTS], const mpfr_t u_low, const mpfr_t u_high) {
     bool small = mpfr_cmp_ui(u_high, 24) <= 0;
     for (int i = 0; i < TERM_COUNTS; i++) {
         mpfr_set_inf(high[i], 1);
@@ -112,16 +105,14 @@ static void quick_sums(mpfr_t low[TERM_COUNTS], mpfr_t high[TERM_COUNTS], const 
 }
 
 /* The sums term by term, and the exponential as their limit. */
-static void series_sums(mpfr_t low[TERM_COUNTS], mpfr_t high[TERM_COUNTS], const mpfr_t u_low, const mpfr_t u_high)
-{
+static void series_sums(mpfr_t low[TERM_COUNTS], mpfr_t high[TERM_COUNTS], const mpfr_t u_low, const mpfr_t u_high) {
     sum_series(low[0], low[1], u_low, MPFR_RNDD);
     mpfr_exp(low[2], u_low, MPFR_RNDD);
     sum_series(high[0], high[1], u_high, MPFR_RNDU);
     mpfr_exp(high[2], u_high, MPFR_RNDU);
 }
 
-void weights_of(ideal_weights *w, wide q, unsigned decimals, mpfr_prec_t precision)
-{
+void weights_of(ideal_weights *w, wide q, unsigned decimals, mpfr_prec_t precision) {
     mpfr_t u_low, u_high, low[TERM_COUNTS], high[TERM_COUNTS];
     mpfr_inits2(precision, u_low, u_high, (mpfr_ptr)0);
     for (int i = 0; i < TERM_COUNTS; i++) {
@@ -146,8 +137,7 @@ void weights_of(ideal_weights *w, wide q, unsigned decimals, mpfr_prec_t precisi
 }
 
 /* 1: every ideal weight is within the tolerance of this one; -1: one is not; 0: open at this precision. */
-static int within_tolerance(const ideal_weights *w, int64_t weight)
-{
+static int within_tolerance(const ideal_weights *w, int64_t weight) {
     int verdict = 1;
     for (int i = 0; i < TERM_COUNTS; i++) {
         if (mpfr_cmp_si(w->high[i], weight - TOLERANCE) < 0 || mpfr_cmp_si(w->low[i], weight + TOLERANCE) > 0)
@@ -158,8 +148,7 @@ static int within_tolerance(const ideal_weights *w, int64_t weight)
     return verdict;
 }
 
-bool weight_allowed(int64_t weight, wide q)
-{
+bool weight_allowed(int64_t weight, wide q) {
     if (weight < 0 || weight > ONE)
         return false;
     ideal_weights w;

@@ -8,8 +8,7 @@
 
 #include "tally.h"
 
-int main(int count, char **arguments)
-{
+int main(int count, char **arguments) {
     uint64_t seed = count > 1 ? strtoull(arguments[1], NULL, 10) : 20260101;
     uint64_t cases = count > 2 ? strtoull(arguments[2], NULL, 10) : 200000;
     tally_start("differential", seed);

@@ -23,20 +23,17 @@ typedef struct {
     const uint8_t *at, *spelled; /* null in some cases of length 0 */
 } search_case;
 
-static void show(const search_case *c)
-{
+static void show(const search_case *c) {
     tally_hex("sheet", c->sheet->bytes, c->sheet->n);
     tally_hex("spelling", c->spelling->bytes, c->spelling->n);
 }
 
-static void expect(const search_case *c, bool held, const char *what)
-{
+static void expect(const search_case *c, bool held, const char *what) {
     if (!tally_check(held, "%s", what))
         show(c);
 }
 
-static void compare_find(const search_case *c, const eas_record *expected)
-{
+static void compare_find(const search_case *c, const eas_record *expected) {
     eas_record got = eas_find(c->at, c->sheet->n, c->spelled, c->spelling->n);
     bool same = got.number == expected->number && got.kind == expected->kind && got.first == expected->first &&
                 got.second == expected->second && got.start == expected->start && got.length == expected->length;
@@ -49,10 +46,9 @@ static void compare_find(const search_case *c, const eas_record *expected)
     show(c);
 }
 
-static eas_answer compare_search(const search_case *c, const eas_record *found)
-{
+static eas_answer compare_search(const search_case *c, const eas_record *found) {
     eas_answer got = eas_search(c->at, c->sheet->n, c->spelled, c->spelling->n);
-    eas_answer refused = { .number = found->number };
+    eas_answer refused = {.number = found->number};
     const char *wrong = found->number != 0 ? answers_differ(&refused, &got)
                                            : judge_answer((uint8_t)found->kind, found->first, found->second, &got);
     if (!tally_check(wrong == NULL, "eas_search: %s", wrong)) {
@@ -67,8 +63,7 @@ static eas_answer compare_search(const search_case *c, const eas_record *found)
     return got;
 }
 
-static void compare_plot(const search_case *c, const eas_answer *answer)
-{
+static void compare_plot(const search_case *c, const eas_answer *answer) {
     eas_mark got = eas_plot(c->at, c->sheet->n, c->spelled, c->spelling->n), expected = mark_of(answer);
     bool same =
         got.blank == expected.blank && got.point.across == expected.point.across && got.point.up == expected.point.up;
@@ -79,10 +74,9 @@ static void compare_plot(const search_case *c, const eas_answer *answer)
     show(c);
 }
 
-static void compare_line(const search_case *c, random_source *r, const eas_answer *answer)
-{
+static void compare_line(const search_case *c, random_source *r, const eas_answer *answer) {
     listing_line line = line_of(c->spelling->bytes, c->spelling->n, answer);
-    size_t rooms[] = { line.length, line.length - 1, line.length + 1, 0, LINE_MAX_BYTES, random_below(r, ROOM_MAX) };
+    size_t rooms[] = {line.length, line.length - 1, line.length + 1, 0, LINE_MAX_BYTES, random_below(r, ROOM_MAX)};
     for (int i = 0; i < 2; i++) {
         size_t room = i == 0 ? rooms[0] : rooms[1 + random_below(r, 5)];
         bool fits = room >= line.length;
@@ -102,8 +96,7 @@ static void compare_line(const search_case *c, random_source *r, const eas_answe
 }
 
 /* A spelling for this sheet: of one of its names, or any. */
-static void choose_spelling(tried_bytes *out, random_source *r, const parsed_sheet *parsed, const tried_sheet *sheet)
-{
+static void choose_spelling(tried_bytes *out, random_source *r, const parsed_sheet *parsed, const tried_sheet *sheet) {
     if (parsed->count == 0 || random_below(r, 4) == 0) {
         random_spelling(out, r);
         return;
@@ -112,8 +105,7 @@ static void choose_spelling(tried_bytes *out, random_source *r, const parsed_she
     random_spelling_of(out, r, sheet->bytes + record->start, record->length);
 }
 
-static void compare_case(search_case *c, random_source *r, const parsed_sheet *parsed)
-{
+static void compare_case(search_case *c, random_source *r, const parsed_sheet *parsed) {
     eas_record found = sheet_find(parsed, c->sheet->bytes, c->spelling->bytes, c->spelling->n);
     c->spelled = lent_input(&spelling_lent, c->spelling->bytes, c->spelling->n);
     if (c->spelling->n == 0 && random_below(r, 2))
@@ -127,12 +119,11 @@ static void compare_case(search_case *c, random_source *r, const parsed_sheet *p
 }
 
 /* One search in the sheet, or one for every record of it. */
-static void compare_sheet(random_source *r, const tried_sheet *sheet, bool every_record)
-{
+static void compare_sheet(random_source *r, const tried_sheet *sheet, bool every_record) {
     static parsed_sheet parsed;
-    tried_bytes spelling = { 0 };
+    tried_bytes spelling = {0};
     sheet_parse(&parsed, sheet->bytes, sheet->n);
-    search_case c = { .sheet = sheet, .spelling = &spelling, .at = lent_input(&sheet_lent, sheet->bytes, sheet->n) };
+    search_case c = {.sheet = sheet, .spelling = &spelling, .at = lent_input(&sheet_lent, sheet->bytes, sheet->n)};
     if (sheet->n == 0 && random_below(r, 2))
         c.at = NULL;
     uint32_t number = eas_check(c.at, sheet->n);
@@ -148,12 +139,11 @@ static void compare_sheet(random_source *r, const tried_sheet *sheet, bool every
 }
 
 /* Zeros behind several starts, in lengths at and beyond every limit. */
-static void compare_edge_lengths(random_source *r, tried_sheet *sheet)
-{
-    static const size_t lengths[] = { 0,  1,  2,     3,     4,     5,     6,     7,      8,
-                                      26, 65, 65534, 65535, 65536, 65537, 65538, 100000, SHEET_ROOM };
-    static const char starts[][9] = { "EAS\0\1\0\0", "EAS\0\1\0\1\1", "EAS\0\1\0\1\x28", "EAS\0\2\0\0",
-                                      "EAT\0\1\0\0", "EAS\1\1\0\0",   "EAS\0\1\xff\xff", "EAS\0\1\0\2\1" };
+static void compare_edge_lengths(random_source *r, tried_sheet *sheet) {
+    static const size_t lengths[] = {0,  1,  2,     3,     4,     5,     6,     7,      8,
+                                     26, 65, 65534, 65535, 65536, 65537, 65538, 100000, SHEET_ROOM};
+    static const char starts[][9] = {"EAS\0\1\0\0", "EAS\0\1\0\1\1", "EAS\0\1\0\1\x28", "EAS\0\2\0\0",
+                                     "EAT\0\1\0\0", "EAS\1\1\0\0",   "EAS\0\1\xff\xff", "EAS\0\1\0\2\1"};
     for (size_t i = 0; i < sizeof lengths / sizeof lengths[0]; i++) {
         for (size_t j = 0; j < sizeof starts / sizeof starts[0]; j++) {
             tally_case("edge length", 100 * i + j);
@@ -166,18 +156,17 @@ static void compare_edge_lengths(random_source *r, tried_sheet *sheet)
 }
 
 /* Document 01's printed listing: every line of it has one right form. */
-static void compare_printed_listing(void)
-{
+static void compare_printed_listing(void) {
     static const uint8_t sheet[] = "EAS\0\1\0\3"
                                    "\12nose/cap 1\1\0\0\0\x17\x97\xbd\x18\x80\0\0\0\x1e\x14\xeb\x8c\0"
                                    "\2\064\062\2\0\0\0\0\x04\xac\x6a\xd0\0\0\0\x1e\x14\xeb\x8c\0"
                                    "\3hot\1\0\0\x09\x37\x45\xdd\x92\0\0\0\0\x03\x02\x17\x8e\0";
     static const char *const lines[][2] = {
-        { "nose%2fcap%201", "nose%2Fcap%201 T 0 0 273213936\n" },
-        { "42", "42 S 0 0 61182203\n" },
-        { "hot", "hot ! 13\n" },
-        { "43", "43 ! 9\n" },
-        { "a%2", "? ! 7\n" },
+        {"nose%2fcap%201", "nose%2Fcap%201 T 0 0 273213936\n"},
+        {"42", "42 S 0 0 61182203\n"},
+        {"hot", "hot ! 13\n"},
+        {"43", "43 ! 9\n"},
+        {"a%2", "? ! 7\n"},
     };
     const uint8_t *at = lent_input(&sheet_lent, sheet, sizeof sheet - 1);
     for (size_t i = 0; i < 5; i++) {
@@ -191,8 +180,7 @@ static void compare_printed_listing(void)
     }
 }
 
-static void check_numbers(const char *title, const uint64_t *counts, const uint32_t *numbers, int count)
-{
+static void check_numbers(const char *title, const uint64_t *counts, const uint32_t *numbers, int count) {
     printf("  %s:", title);
     for (int i = 0; i < count; i++)
         printf(" %" PRIu32 ": %" PRIu64, numbers[i], counts[numbers[i]]);
@@ -201,9 +189,8 @@ static void check_numbers(const char *title, const uint64_t *counts, const uint3
         tally_check(counts[numbers[i]] > 0, "%s: none gets %" PRIu32, title, numbers[i]);
 }
 
-void compare_sheets(uint64_t seed, uint64_t count)
-{
-    static const uint32_t of_sheets[] = { 0, 1, 2, 3, 4, 5, 6, 16 }, of_searches[] = { 0, 7, 8, 9, 10, 11, 12, 13 };
+void compare_sheets(uint64_t seed, uint64_t count) {
+    static const uint32_t of_sheets[] = {0, 1, 2, 3, 4, 5, 6, 16}, of_searches[] = {0, 7, 8, 9, 10, 11, 12, 13};
     static tried_sheet sheet;
     random_source edges = random_case(seed, SHEETS_PART, count);
     lent_open(&sheet_lent, SHEET_ROOM);

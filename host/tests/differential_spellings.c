@@ -15,21 +15,18 @@ enum { SPELLINGS_PART = 33, ROOM_MAX = 256, LONG_BYTES = 70000 };
 static lent_buffer input_lent, output_lent, back_lent;
 static uint64_t reads_by_number[9], writes_by_number[15];
 
-static void show(const char *call, const uint8_t *input, size_t n, eas_text got)
-{
+static void show(const char *call, const uint8_t *input, size_t n, eas_text got) {
     tally_note("%s gave number %" PRIu32 " length %zu", call, got.number, got.length);
     tally_hex("input", input, n);
     tally_hex("output", output_lent.bytes, output_lent.size);
 }
 
-static const uint8_t *lend(random_source *r, const uint8_t *input, size_t n)
-{
+static const uint8_t *lend(random_source *r, const uint8_t *input, size_t n) {
     const uint8_t *lent = lent_input(&input_lent, input, n);
     return n == 0 && random_below(r, 2) ? NULL : lent;
 }
 
-static void compare_read(random_source *r, const uint8_t *spelling, size_t n)
-{
+static void compare_read(random_source *r, const uint8_t *spelling, size_t n) {
     read_name expected = name_read(spelling, n);
     const uint8_t *input = lend(r, spelling, n);
     uint8_t *out = lent_output(&output_lent, NAME_MAX_BYTES);
@@ -41,12 +38,11 @@ static void compare_read(random_source *r, const uint8_t *spelling, size_t n)
     reads_by_number[expected.number]++;
 }
 
-static void compare_spell(random_source *r, const tried_bytes *name)
-{
+static void compare_spell(random_source *r, const tried_bytes *name) {
     written_name expected = name_write(name->bytes, name->n);
-    size_t rooms[] = { expected.length,           expected.length - (expected.length > 0),
-                       expected.length + 1,       SPELLING_MAX_BYTES,
-                       random_below(r, ROOM_MAX), 0 };
+    size_t rooms[] = {expected.length,           expected.length - (expected.length > 0),
+                      expected.length + 1,       SPELLING_MAX_BYTES,
+                      random_below(r, ROOM_MAX), 0};
     size_t room = rooms[random_below(r, 6)];
     uint32_t number = expected.number != 0 ? expected.number : room < expected.length ? 14 : 0;
     size_t length = number == 0 ? expected.length : 0;
@@ -63,8 +59,7 @@ static void compare_spell(random_source *r, const tried_bytes *name)
 }
 
 /* A name written and read again by the library is itself, whatever its bytes. */
-static void compare_round_trip(random_source *r, const tried_bytes *name)
-{
+static void compare_round_trip(random_source *r, const tried_bytes *name) {
     uint8_t *spelled = lent_output(&output_lent, SPELLING_MAX_BYTES);
     eas_text written = eas_spell(lend(r, name->bytes, name->n), name->n, spelled, SPELLING_MAX_BYTES);
     if (written.number != 0)
@@ -75,8 +70,7 @@ static void compare_round_trip(random_source *r, const tried_bytes *name)
         show("eas_read", name->bytes, name->n, again);
 }
 
-static void check_reach(void)
-{
+static void check_reach(void) {
     tally_case("reach of spellings", 0);
     printf("  readings by number: 0: %" PRIu64 " 7: %" PRIu64 " 8: %" PRIu64, reads_by_number[0], reads_by_number[7],
            reads_by_number[8]);
@@ -87,11 +81,10 @@ static void check_reach(void)
 }
 
 /* Every single byte as a name and as a spelling; every pair of bytes after a percent sign. */
-static void compare_all_short(random_source *r)
-{
+static void compare_all_short(random_source *r) {
     for (unsigned i = 0; i < 65536; i++) {
-        tried_bytes one = { .n = 1, .bytes = { (uint8_t)i } };
-        tried_bytes percent = { .n = 3, .bytes = { '%', (uint8_t)(i >> 8), (uint8_t)i } };
+        tried_bytes one = {.n = 1, .bytes = {(uint8_t)i}};
+        tried_bytes percent = {.n = 3, .bytes = {'%', (uint8_t)(i >> 8), (uint8_t)i}};
         tally_case("short spelling", i);
         compare_read(r, percent.bytes, percent.n);
         if (i >= 256)
@@ -103,10 +96,9 @@ static void compare_all_short(random_source *r)
 }
 
 /* Longer than any spelling and any sheet: right throughout, and wrong at the first byte, late, or at the end. */
-static void compare_long(random_source *r)
-{
+static void compare_long(random_source *r) {
     static uint8_t bytes[LONG_BYTES];
-    static const size_t wrong[] = { 0, 120, 65536, LONG_BYTES - 1 };
+    static const size_t wrong[] = {0, 120, 65536, LONG_BYTES - 1};
     for (int i = 0; i < 5; i++) {
         memset(bytes, 'a', LONG_BYTES);
         if (i < 4)
@@ -119,8 +111,7 @@ static void compare_long(random_source *r)
     }
 }
 
-void compare_spellings(uint64_t seed, uint64_t count)
-{
+void compare_spellings(uint64_t seed, uint64_t count) {
     random_source all = random_case(seed, SPELLINGS_PART, 0);
     lent_open(&input_lent, LONG_BYTES);
     lent_open(&output_lent, ROOM_MAX);

@@ -12,8 +12,7 @@ enum { STATES_PART = 11, SHOWN_NUMBERS = 17 };
 
 static uint64_t by_number[SHOWN_NUMBERS], by_piece[BANDS][PIECES], perfect_gases, joins;
 
-static void count_answer(const eas_answer *a)
-{
+static void count_answer(const eas_answer *a) {
     density_strip strip;
     by_number[a->number < SHOWN_NUMBERS ? a->number : 0]++;
     if (a->number != 0)
@@ -27,8 +26,7 @@ static void count_answer(const eas_answer *a)
             by_piece[band_of(a->y)][i] += printed_temperature[band_of(a->y)][i].label == piece_at(a->y, a->z)->label;
 }
 
-static void compare_state(air_state s)
-{
+static void compare_state(air_state s) {
     eas_answer a = eas_evaluate(s.kind, s.first, s.second);
     const char *wrong = judge_answer(s.kind, s.first, s.second, &a);
     if (!tally_check(wrong == NULL, "not allowed: %s", wrong)) {
@@ -45,9 +43,8 @@ static void compare_state(air_state s)
 }
 
 /* A run that reaches too little shows less than its numbers say. */
-static void check_reach(void)
-{
-    static const uint32_t numbers[] = { 0, 6, 10, 11, 12, 13 };
+static void check_reach(void) {
+    static const uint32_t numbers[] = {0, 6, 10, 11, 12, 13};
     tally_case("reach of states", 0);
     printf("  states by number:");
     for (int i = 0; i < 6; i++)
@@ -66,8 +63,7 @@ static void check_reach(void)
     tally_check(perfect_gases > 0 && joins > 0, "no perfect gas or no join");
 }
 
-void compare_states(uint64_t seed, uint64_t count)
-{
+void compare_states(uint64_t seed, uint64_t count) {
     size_t edges;
     const air_state *edge = edge_states(&edges);
     for (size_t i = 0; i < edges; i++) {

@@ -41,8 +41,7 @@ static double_piece pieces[BANDS][PIECES];
 static double entropy_rows[BANDS][BICUBIC_TERMS];
 static group groups[GROUPS];
 
-static void read_numerals(void)
-{
+static void read_numerals(void) {
     for (int band = 0; band < BANDS; band++) {
         for (int i = 0; i < PIECES && printed_temperature[band][i].label != 0; i++) {
             const printed_piece *from = &printed_temperature[band][i];
@@ -62,8 +61,7 @@ static void read_numerals(void)
 }
 
 /* GAS1 + GAS2 + GAS3 + GAS4 */
-static double cubic(const double *c, double y, double z)
-{
+static double cubic(const double *c, double y, double z) {
     double gas1 = c[0] + c[1] * y;
     double gas2 = (c[2] + c[3] * y) * z;
     double gas3 = (c[4] + c[5] * z + c[6] * y) * y * y;
@@ -72,8 +70,7 @@ static double cubic(const double *c, double y, double z)
 }
 
 /* TNON of TGAS1, labels 310 to 440 */
-static double tnon(const double_piece *p, double y, double z)
-{
+static double tnon(const double_piece *p, double y, double z) {
     double value = cubic(p->a, y, z);
     if (!p->weighed)
         return value;
@@ -82,16 +79,14 @@ static double tnon(const double_piece *p, double y, double z)
 }
 
 /* S of TGAS2 in one band, labels 80 to 120 */
-static double band_entropy(density_band band, int perfect, double y, double z)
-{
+static double band_entropy(density_band band, int perfect, double y, double z) {
     if (perfect)
         return 6779.2004 + (2.5 * (z - 0.4) - y) * 287.06 * 2.302585;
     return 287.06 * cubic(entropy_rows[band], y, z);
 }
 
 /* S of TGAS2 with its joins, at the side that the answer's own logarithms choose */
-static double joined_entropy(const eas_answer *a, double y, double z)
-{
+static double joined_entropy(const eas_answer *a, double y, double z) {
     density_strip strip;
     int perfect = a->z <= ENTROPY_PERFECT_LIMIT;
     if (!strip_of(a->y, &strip))
@@ -102,8 +97,7 @@ static double joined_entropy(const eas_answer *a, double y, double z)
     return low + (high - low) / (upper - lower) * (y - lower);
 }
 
-static void note(int index, const char *name, int label, double difference, double bound, double steep)
-{
+static void note(int index, const char *name, int label, double difference, double bound, double steep) {
     group *g = &groups[index];
     g->count++;
     if (label == 0)
@@ -115,15 +109,13 @@ static void note(int index, const char *name, int label, double difference, doub
     g->steepest = fmax(g->steepest, steep);
 }
 
-static void show(const air_state *s, const eas_answer *a, double expected)
-{
+static void show(const air_state *s, const eas_answer *a, double expected) {
     tally_note("kind %u first %" PRIu64 " second %" PRIu64 ", in doubles %.17g", s->kind, s->first, s->second,
                expected);
     tally_answer("got", a);
 }
 
-static void compare_temperature(const air_state *s, const eas_answer *a)
-{
+static void compare_temperature(const air_state *s, const eas_answer *a) {
     double y = log10((double)s->second / (double)D0), z = log10((double)s->first / (double)P0) - y;
     double got = (double)a->value * 1e-6, kelvin = (double)s->first * 1e5 / (287.06 * (double)s->second);
     double bound = 1e-6 / kelvin + 1e-12, steep = 0;
@@ -148,9 +140,8 @@ static void compare_temperature(const air_state *s, const eas_answer *a)
         show(s, a, kelvin);
 }
 
-static void compare_entropy(const air_state *s, const eas_answer *a)
-{
-    static const char *const names[] = { "entropy, low", "entropy, middle", "entropy, high" };
+static void compare_entropy(const air_state *s, const eas_answer *a) {
+    static const char *const names[] = {"entropy, low", "entropy, middle", "entropy, high"};
     double y = log10((double)s->second / (double)D0), z = log10((double)s->first / (double)E0);
     double expected = joined_entropy(a, y, z), got = (double)a->value * 1e-4;
     double by_y = (joined_entropy(a, y + STEP, z) - joined_entropy(a, y - STEP, z)) / (2 * STEP);
@@ -170,8 +161,7 @@ static void compare_entropy(const air_state *s, const eas_answer *a)
         show(s, a, expected);
 }
 
-static void compare(const air_state *s)
-{
+static void compare(const air_state *s) {
     eas_answer a = eas_evaluate(s->kind, s->first, s->second);
     if (a.number != 0)
         return;
@@ -181,8 +171,7 @@ static void compare(const air_state *s)
         compare_entropy(s, &a);
 }
 
-static void print_groups(void)
-{
+static void print_groups(void) {
     printf("  relative differences; constants: temperature %.1g, entropy %.1g\n", TEMPERATURE_BOUND, ENTROPY_BOUND);
     printf("  %-26s %9s %12s %14s %10s\n", "piece", "states", "largest", "largest bound", "slopes");
     for (int i = 0; i < GROUPS; i++) {
@@ -192,8 +181,7 @@ static void print_groups(void)
     }
 }
 
-int main(int count, char **arguments)
-{
+int main(int count, char **arguments) {
     uint64_t seed = count > 1 ? strtoull(arguments[1], NULL, 10) : 20260101;
     uint64_t cases = count > 2 ? strtoull(arguments[2], NULL, 10) : 500000;
     size_t edges;

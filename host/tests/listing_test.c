@@ -34,29 +34,25 @@ static name_list list;
 static parsed_sheet parsed;
 static output expected, got;
 
-static void fail(const char *what)
-{
+static void fail(const char *what) {
     perror(what);
     exit(2);
 }
 
-static void write_file(const char *name, const uint8_t *bytes, size_t n)
-{
+static void write_file(const char *name, const uint8_t *bytes, size_t n) {
     FILE *file = fopen(name, "wb");
     if (file == NULL || fwrite(bytes, 1, n, file) != n || fclose(file) != 0)
         fail(name);
 }
 
-static void redirect(const char *name, int flags, int to)
-{
+static void redirect(const char *name, int flags, int to) {
     int from = open(name, flags, 0600);
     if (from < 0 || dup2(from, to) < 0)
         _exit(126);
 }
 
 /* Runs the program with the list as its input; true where it ends by itself. */
-static bool run(void)
-{
+static bool run(void) {
     pid_t child = fork();
     if (child < 0)
         fail("fork");
@@ -77,24 +73,21 @@ static bool run(void)
     return WIFEXITED(status) && WEXITSTATUS(status) < 126;
 }
 
-static void append(const char *bytes, size_t n)
-{
+static void append(const char *bytes, size_t n) {
     if (expected.n + n <= sizeof expected.bytes) {
         memcpy(expected.bytes + expected.n, bytes, n);
         expected.n += n;
     }
 }
 
-static void append_line(const uint8_t *spelled, size_t m)
-{
+static void append_line(const uint8_t *spelled, size_t m) {
     eas_answer answer = eas_search(sheet.bytes, sheet.n, spelled, m);
     listing_line line = line_of(spelled, m, &answer);
     append(line.bytes, line.length);
 }
 
 /* Document 01, Listing program: the sheet first, then the list's length, then a line for each name. */
-static void work_out(bool has_file)
-{
+static void work_out(bool has_file) {
     char refused[32];
     size_t start = 0;
     if (!has_file)
@@ -119,8 +112,7 @@ static void work_out(bool has_file)
         append_line(list.bytes + start, list.n - start);
 }
 
-static void compare(bool has_file)
-{
+static void compare(bool has_file) {
     work_out(has_file);
     unlink("sheet.eas");
     if (has_file)
@@ -136,15 +128,13 @@ static void compare(bool has_file)
     tally_note("got: %.*s", (int)(got.n < 2000 ? got.n : 2000), got.bytes);
 }
 
-static void add_name(const uint8_t *bytes, size_t n)
-{
+static void add_name(const uint8_t *bytes, size_t n) {
     for (size_t i = 0; i < n && list.n < LIST_MAX_BYTES; i++)
         list.bytes[list.n++] = bytes[i];
 }
 
 /* Names of the sheet and others, now and then an empty line, with or without a newline at the end. */
-static void random_list(random_source *r)
-{
+static void random_list(random_source *r) {
     tried_bytes spelling;
     uint64_t lines = random_below(r, 12);
     list.n = 0;
@@ -164,8 +154,7 @@ static void random_list(random_source *r)
 }
 
 /* Lists at and beyond 65,536 bytes, of one long line and of short ones, with good, bad and missing sheets. */
-static void compare_edges(void)
-{
+static void compare_edges(void) {
     static const uint8_t empty_sheet[] = "EAS\0\1\0\0", old_sheet[] = "EAS\0\2\0\0";
     for (int i = 0; i < 24; i++) {
         tally_case("edge listing", (uint64_t)i);
@@ -184,8 +173,7 @@ static void compare_edges(void)
     compare(false);
 }
 
-int main(int count, char **arguments)
-{
+int main(int count, char **arguments) {
     char folder[] = "/tmp/listing_test.XXXXXX";
     if (count < 2) {
         fprintf(stderr, "listing_test PROGRAM [seed [count]]\n");

@@ -7,8 +7,7 @@
 
 static mistake made;
 
-const char *mistake_name(mistake m)
-{
+const char *mistake_name(mistake m) {
     static const char *const names[MISTAKES] = {
         "nearest choices",
         "logarithms rounded down",
@@ -63,18 +62,15 @@ const char *mistake_name(mistake m)
     return names[m];
 }
 
-static wide divide(wide a, wide b)
-{
+static wide divide(wide a, wide b) {
     return made == ALL_TOWARD_ZERO ? a / b : floor_divide(a, b);
 }
 
-static wide mul(wide a, int64_t b)
-{
+static wide mul(wide a, int64_t b) {
     return divide(a * b, 1000000);
 }
 
-static wide polynomial(const int64_t c[BICUBIC_TERMS], int64_t y, int64_t z)
-{
+static wide polynomial(const int64_t c[BICUBIC_TERMS], int64_t y, int64_t z) {
     if (made == ENTROPY_ONE_ROUNDING)
         return floor_divide(exact_bicubic(c, y, z), 1000000000000000000);
     int64_t third = made == TERMS_SWAPPED ? y : z, other = made == TERMS_SWAPPED ? z : y;
@@ -85,8 +81,7 @@ static wide polynomial(const int64_t c[BICUBIC_TERMS], int64_t y, int64_t z)
     return sum + mul(mul(yy, y), y) + mul(mul(zz, z), z);
 }
 
-static int64_t logarithm(uint64_t over, uint64_t under)
-{
+static int64_t logarithm(uint64_t over, uint64_t under) {
     const long double rounding = 1e-9L; /* far more than that of log10l, far less than free answer one leaves */
     long double exact = 1000000.0L * log10l((long double)over / (long double)under);
     int64_t lowest = (int64_t)floorl(exact + rounding), highest = (int64_t)ceill(exact - rounding);
@@ -105,8 +100,7 @@ static int64_t logarithm(uint64_t over, uint64_t under)
 }
 
 /* The weight of an exponent that is 0 or more. */
-static long double positive_weight(long double q)
-{
+static long double positive_weight(long double q) {
     long double term = 1.0L, sum = 1.0L;
     if (made != SERIES_TOO_SHORT)
         return 1.0L / (1.0L + expl(q));
@@ -115,8 +109,7 @@ static long double positive_weight(long double q)
     return 1.0L / (1.0L + sum);
 }
 
-static int64_t weight(wide units)
-{
+static int64_t weight(wide units) {
     long double q = (long double)units / 1.0e10L;
     if (made == WEIGHT_STUCK_AT_HALF)
         return 5000000000;
@@ -137,8 +130,7 @@ static int64_t weight(wide units)
     }
 }
 
-static const temperature_piece *chosen_piece(int64_t y, int64_t z)
-{
+static const temperature_piece *chosen_piece(int64_t y, int64_t z) {
     static temperature_piece changed;
     if (made == EDGE_IN_UPPER_BAND)
         y++;
@@ -154,13 +146,11 @@ static const temperature_piece *chosen_piece(int64_t y, int64_t z)
     return &changed;
 }
 
-static long double kelvin_at(int64_t millionths)
-{
+static long double kelvin_at(int64_t millionths) {
     return (long double)T0 * powl(10.0L, (long double)millionths / 1000000.0L);
 }
 
-static int64_t kelvin_of(int64_t fit)
-{
+static int64_t kelvin_of(int64_t fit) {
     if (made == TEMPERATURE_CONSTANT)
         return 3000000000;
     int64_t g = (int64_t)floor_divide(fit, 10000);
@@ -178,11 +168,10 @@ static int64_t kelvin_of(int64_t fit)
     }
 }
 
-static eas_edge fit_at(int64_t y, int64_t z)
-{
+static eas_edge fit_at(int64_t y, int64_t z) {
     const temperature_piece *piece = chosen_piece(y, z);
     wide a = polynomial(piece->a, y, z), b = polynomial(piece->b, y, z);
-    eas_edge edge = { .fit = (int64_t)a };
+    eas_edge edge = {.fit = (int64_t)a};
     if (!piece->weighed)
         return edge;
     const int64_t *c = piece->exponent;
@@ -193,24 +182,21 @@ static eas_edge fit_at(int64_t y, int64_t z)
     return edge;
 }
 
-static eas_answer refused(eas_answer a, uint32_t number)
-{
+static eas_answer refused(eas_answer a, uint32_t number) {
     bool bare = (made == REFUSAL_WITHOUT_LOGS && number == 12) || (made == REFUSAL_WITHOUT_FIT && number == 13);
     if (bare)
-        return (eas_answer){ .number = number };
+        return (eas_answer){.number = number};
     a.number = number;
     return a;
 }
 
-static eas_answer shown(eas_answer a, int64_t value)
-{
+static eas_answer shown(eas_answer a, int64_t value) {
     a.carries |= EAS_CARRIES_VALUE;
     a.value = value;
     return a;
 }
 
-static eas_answer fitted_temperature(eas_answer a)
-{
+static eas_answer fitted_temperature(eas_answer a) {
     density_strip strip;
     int64_t limit = HIGHEST_FIT + (made == FIT_LIMIT_PASSED) - (made == FIT_LIMIT_EXCLUDED);
     a.low = fit_at(a.y, a.z);
@@ -225,9 +211,8 @@ static eas_answer fitted_temperature(eas_answer a)
     return shown(a, kelvin);
 }
 
-static eas_answer temperature(uint64_t p, uint64_t d)
-{
-    eas_answer a = { .letter = 'T', .carries = EAS_CARRIES_LOGS | EAS_CARRIES_X };
+static eas_answer temperature(uint64_t p, uint64_t d) {
+    eas_answer a = {.letter = 'T', .carries = EAS_CARRIES_LOGS | EAS_CARRIES_X};
     a.x = logarithm(p, P0);
     a.y = logarithm(d, D0);
     a.z = made == Z_IS_SUM ? a.x + a.y : a.x - a.y;
@@ -243,20 +228,17 @@ static eas_answer temperature(uint64_t p, uint64_t d)
     return shown(a, (int64_t)((over + (made == PERFECT_ROUNDED_UP ? under - 1 : 0)) / under));
 }
 
-static density_band entropy_band(int64_t y)
-{
+static density_band entropy_band(int64_t y) {
     return band_of(made == EDGE_IN_UPPER_BAND ? y + 1 : y);
 }
 
-static wide plain_entropy(int64_t y, int64_t z)
-{
+static wide plain_entropy(int64_t y, int64_t z) {
     if (z <= ENTROPY_PERFECT_LIMIT - (made == ENTROPY_END_EXCLUDED ? 1 : 0))
         return 67792004 + divide((5 * (z - 400000) - 2 * (wide)y) * 28706 * 2302585, 20000000000);
     return divide(28706 * polynomial(entropy_coefficients(entropy_band(y)), y, z), 100000000);
 }
 
-static bool strip_for_entropy(int64_t y, density_strip *strip)
-{
+static bool strip_for_entropy(int64_t y, density_strip *strip) {
     if (made == STRIP_LEFT_OUT)
         return false;
     if (made != STRIP_EDGE_INCLUDED)
@@ -264,14 +246,12 @@ static bool strip_for_entropy(int64_t y, density_strip *strip)
     return strip_of(y - 1, strip) || strip_of(y, strip) || strip_of(y + 1, strip);
 }
 
-static bool above_limit(int64_t y, int64_t z)
-{
+static bool above_limit(int64_t y, int64_t z) {
     return z > entropy_limit(entropy_band(y)) - (made == LIMIT_EXCLUDED ? 1 : 0);
 }
 
-static eas_answer entropy(uint64_t e, uint64_t d)
-{
-    eas_answer a = { .letter = 'S', .carries = EAS_CARRIES_LOGS, .y = logarithm(d, D0), .z = logarithm(e, E0) };
+static eas_answer entropy(uint64_t e, uint64_t d) {
+    eas_answer a = {.letter = 'S', .carries = EAS_CARRIES_LOGS, .y = logarithm(d, D0), .z = logarithm(e, E0)};
     density_strip strip;
     bool joined = strip_for_entropy(a.y, &strip);
     bool beyond = joined ? above_limit(strip.lower, a.z) || above_limit(strip.upper, a.z) : above_limit(a.y, a.z);
@@ -289,27 +269,25 @@ static eas_answer entropy(uint64_t e, uint64_t d)
     return shown(a, (int64_t)(low + (made == JOIN_TOWARD_ZERO ? rise / width : divide(rise, width))));
 }
 
-static bool out_of_range(uint64_t number, uint64_t low, uint64_t high)
-{
+static bool out_of_range(uint64_t number, uint64_t low, uint64_t high) {
     uint64_t end = made == RANGE_END_EXCLUDED ? 1 : 0;
     return number < low + end || number > high - end;
 }
 
-eas_answer make_answer(mistake m, uint8_t kind, uint64_t first, uint64_t second)
-{
+eas_answer make_answer(mistake m, uint8_t kind, uint64_t first, uint64_t second) {
     made = m;
     bool known = kind == 1 || kind == 2;
     bool bad_first = kind == 2 ? out_of_range(first, E_MIN, E_MAX) : out_of_range(first, P_MIN, P_MAX);
     bool bad_second = out_of_range(second, D_MIN, D_MAX);
     if (!known && made != KIND_TESTED_LAST)
-        return (eas_answer){ .number = 6 };
+        return (eas_answer){.number = 6};
     if (bad_second && made == DENSITY_TESTED_FIRST)
-        return (eas_answer){ .number = 11 };
+        return (eas_answer){.number = 11};
     if (bad_first)
-        return (eas_answer){ .number = 10 };
+        return (eas_answer){.number = 10};
     if (bad_second)
-        return (eas_answer){ .number = 11 };
+        return (eas_answer){.number = 11};
     if (!known)
-        return (eas_answer){ .number = 6 };
+        return (eas_answer){.number = 6};
     return kind == 1 ? temperature(first, second) : entropy(first, second);
 }

@@ -7,8 +7,7 @@
 
 #include "tally.h"
 
-int main(int count, char **arguments)
-{
+int main(int count, char **arguments) {
     uint64_t seed = count > 1 ? strtoull(arguments[1], NULL, 10) : 1;
     tally_start("selftest", seed);
     test_numbers();

@@ -12,20 +12,17 @@
 enum { RANDOM_STATES = 10000, JUDGED_PER_MISTAKE = 400 };
 
 /* A mistake whose answers may happen to lie within a free answer's tolerance. */
-static bool may_be_allowed(mistake m)
-{
+static bool may_be_allowed(mistake m) {
     return m == WEIGHT_OF_OTHER_SIGN || m == WEIGHT_STUCK_AT_HALF || m == SERIES_TOO_SHORT || m == TEMPERATURE_JOINED ||
            m == TEMPERATURE_CONSTANT;
 }
 
-static air_state selftest_state(size_t i, uint64_t seed, const air_state *edges, size_t count)
-{
+static air_state selftest_state(size_t i, uint64_t seed, const air_state *edges, size_t count) {
     random_source r = random_case(seed, 1, i);
     return i < count ? edges[i] : random_state(&r);
 }
 
-static void test_mistake(mistake m, uint64_t seed)
-{
+static void test_mistake(mistake m, uint64_t seed) {
     size_t count, seen = 0, rejected = 0;
     const air_state *edges = edge_states(&count);
     for (size_t i = 0; i < count + RANDOM_STATES && seen < JUDGED_PER_MISTAKE; i++) {
@@ -46,8 +43,7 @@ static void test_mistake(mistake m, uint64_t seed)
 }
 
 /* The reference must take every allowed choice, not just the nearest. */
-static void test_right_answers(mistake choice, uint64_t seed)
-{
+static void test_right_answers(mistake choice, uint64_t seed) {
     size_t count;
     const air_state *edges = edge_states(&count);
     for (size_t i = 0; i < count + RANDOM_STATES; i++) {
@@ -60,8 +56,7 @@ static void test_right_answers(mistake choice, uint64_t seed)
     }
 }
 
-static void must_reject(air_state s, const eas_answer *answer, const char *change)
-{
+static void must_reject(air_state s, const eas_answer *answer, const char *change) {
     if (!tally_check(judge_answer(s.kind, s.first, s.second, answer) != NULL, "%s; kind %u %" PRIu64 " %" PRIu64,
                      change, s.kind, s.first, s.second))
         tally_answer("taken", answer);
@@ -69,8 +64,7 @@ static void must_reject(air_state s, const eas_answer *answer, const char *chang
 
 /* Every field of a right answer changed by itself. A weight may move by 20 within its tolerance, a temperature by three
  * millionths of its logarithm, a refused entropy's logarithm by 1, so these take longer steps. */
-static void test_changed_fields(air_state s)
-{
+static void test_changed_fields(air_state s) {
     eas_answer right = make_answer(NO_MISTAKE, s.kind, s.first, s.second);
     int log_step = right.number == 12 ? 2 : 1;
     for (int step = -1; step <= 1; step += 2) {
@@ -89,9 +83,9 @@ static void test_changed_fields(air_state s)
         a[9].high.fit += step;
         a[10].high.weight += step;
         a[11].high.value += step;
-        static const char *const fields[] = { "number",    "letter",   "x",           "y",
-                                              "z",         "value",    "low.fit",     "low.weight",
-                                              "low.value", "high.fit", "high.weight", "high.value" };
+        static const char *const fields[] = {"number",    "letter",   "x",           "y",
+                                             "z",         "value",    "low.fit",     "low.weight",
+                                             "low.value", "high.fit", "high.weight", "high.value"};
         for (int i = 0; i < 12; i++)
             must_reject(s, &a[i], fields[i]);
     }
@@ -102,8 +96,7 @@ static void test_changed_fields(air_state s)
     }
 }
 
-static void test_swapped_fields(air_state s)
-{
+static void test_swapped_fields(air_state s) {
     eas_answer right = make_answer(NO_MISTAKE, s.kind, s.first, s.second), a = right;
     a.y = right.z, a.z = right.y;
     if (a.y != a.z)
@@ -127,22 +120,21 @@ static void test_swapped_fields(air_state s)
 }
 
 /* One state of every sort of answer. */
-static void test_changed_answers(void)
-{
+static void test_changed_answers(void) {
     static const air_state states[] = {
-        { 1, 101330000000, 129200000000 },
-        { 2, 78408400, 129200000000 },
-        { 0, 1, 12920 },
-        { 1, 0, 12920 },
-        { 2, 7840839, 12920 },
-        { 1, 1, 12919 },
-        { 2, 7840840, UINT64_MAX },
-        { 1, 1, 12920 },
-        { 1, 100000000000000000, 12920 },
-        { 2, 1000000000000, 12920 },
-        { 1, 10133000000000, 12920000000 },
+        {1, 101330000000, 129200000000},
+        {2, 78408400, 129200000000},
+        {0, 1, 12920},
+        {1, 0, 12920},
+        {2, 7840839, 12920},
+        {1, 1, 12919},
+        {2, 7840840, UINT64_MAX},
+        {1, 1, 12920},
+        {1, 100000000000000000, 12920},
+        {2, 1000000000000, 12920},
+        {1, 10133000000000, 12920000000},
     };
-    static const int64_t rows[] = { -6543211, -4510000, -2345678, -499000, 1234567 };
+    static const int64_t rows[] = {-6543211, -4510000, -2345678, -499000, 1234567};
     for (size_t i = 0; i < LENGTH(states); i++) {
         tally_case("changed answers", i);
         test_changed_fields(states[i]);
@@ -159,8 +151,7 @@ static void test_changed_answers(void)
     }
 }
 
-void test_answers(uint64_t seed)
-{
+void test_answers(uint64_t seed) {
     test_changed_answers();
     for (mistake m = NO_MISTAKE; m < FIRST_MISTAKE; m++)
         test_right_answers(m, seed);

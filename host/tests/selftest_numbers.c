@@ -12,20 +12,19 @@
 #include "tally.h"
 
 /* Answers that document 01 prints: proof table and listing. */
-static void test_known_values(void)
-{
+static void test_known_values(void) {
     tally_case("known values", 0);
     static const struct {
         int64_t y, z, fit;
-    } fits[] = { { 0, 500000, 4961733650 }, { -1000000, 500000, 4943121249 }, { -5000000, 500000, 4949976875 } };
+    } fits[] = {{0, 500000, 4961733650}, {-1000000, 500000, 4943121249}, {-5000000, 500000, 4949976875}};
     for (size_t i = 0; i < LENGTH(fits); i++)
         tally_check(fitted(piece_at(fits[i].y, fits[i].z), fits[i].y, fits[i].z, 0) == fits[i].fit, "fit %zu", i);
     tally_check(band_of(-4500000) == LOW_BAND && band_of(-4499999) == MIDDLE_BAND, "lower density edge");
     tally_check(band_of(-500000) == MIDDLE_BAND && band_of(-499999) == HIGH_BAND, "upper density edge");
     tally_check(entropy_value(0, 1000000) == 77879435, "entropy at ten times E0");
     tally_check(!entropy_beyond(-4525000, 3500000) && entropy_beyond(-4524999, 3500000), "limit at a strip's edge");
-    eas_answer nose = { .letter = 'T', .carries = 19, .value = 273213936 };
-    eas_answer forty_two = { .letter = 'S', .carries = 17, .value = 61182203 };
+    eas_answer nose = {.letter = 'T', .carries = 19, .value = 273213936};
+    eas_answer forty_two = {.letter = 'S', .carries = 17, .value = 61182203};
     tally_check(judge_answer(1, P0, D0, &nose) == NULL, "first listing value");
     tally_check(judge_answer(2, E0, D0, &forty_two) == NULL, "second listing value");
     eas_answer hot = make_answer(NO_MISTAKE, 1, 10133000000000, 12920000000);
@@ -33,8 +32,7 @@ static void test_known_values(void)
 }
 
 /* 10^low < over^power < 10^high in whole numbers; the power is a million for a denominator of 1. */
-static bool power_between(unsigned long over, int64_t low, int64_t high)
-{
+static bool power_between(unsigned long over, int64_t low, int64_t high) {
     mpz_t power, below, above;
     mpz_inits(power, below, above, NULL);
     mpz_ui_pow_ui(power, over, 1000000);
@@ -45,8 +43,7 @@ static bool power_between(unsigned long over, int64_t low, int64_t high)
     return between;
 }
 
-static void test_logarithms(void)
-{
+static void test_logarithms(void) {
     ratio_logarithm l;
     logarithm_init(&l);
     logarithm_of(&l, 3, 1);
@@ -74,8 +71,7 @@ static void test_logarithms(void)
 }
 
 /* 10^10 times the ideal weight as a fraction; q in units of 10^-10. */
-static void exact_weight(mpq_t out, int64_t q, unsigned terms)
-{
+static void exact_weight(mpq_t out, int64_t q, unsigned terms) {
     mpq_t term, factor;
     mpq_inits(term, factor, NULL);
     mpq_set_ui(term, 1, 1);
@@ -94,9 +90,8 @@ static void exact_weight(mpq_t out, int64_t q, unsigned terms)
     mpq_clears(term, factor, NULL);
 }
 
-static void test_weight(int64_t q)
-{
-    static const unsigned terms[] = { 128, 400 };
+static void test_weight(int64_t q) {
+    static const unsigned terms[] = {128, 400};
     ideal_weights w;
     mpq_t exact;
     mpz_t whole;
@@ -123,10 +118,9 @@ static void test_weight(int64_t q)
     mpz_clear(whole);
 }
 
-static void test_weights(void)
-{
-    static const int64_t exponents[] = { 0,           1,           10,           9999999999,   10000000000,
-                                         12345678901, 50000000000, 119999999999, 240000000000, 999999999999 };
+static void test_weights(void) {
+    static const int64_t exponents[] = {0,           1,           10,           9999999999,   10000000000,
+                                        12345678901, 50000000000, 119999999999, 240000000000, 999999999999};
     for (size_t i = 0; i < LENGTH(exponents); i++) {
         tally_case("weight", i);
         test_weight(exponents[i]);
@@ -136,8 +130,7 @@ static void test_weights(void)
 }
 
 /* Demand 3's own bounds, which the stricter rules of an answer would hide. */
-static void test_claims(void)
-{
+static void test_claims(void) {
     for (int64_t y = -6900000; y < 3000000; y += 330000) {
         for (int64_t z = 260000; z < 3000000; z += 170000) {
             tally_case("claims", (uint64_t)(z + 1000000000 * (y + 7000000)));
@@ -165,8 +158,7 @@ static void test_claims(void)
     }
 }
 
-void test_numbers(void)
-{
+void test_numbers(void) {
     test_known_values();
     test_logarithms();
     test_weights();

@@ -19,34 +19,33 @@ static const struct {
     uint32_t number;
     size_t count;
 } sheets[] = {
-    { BYTES("EAS\0\1\0\0"), 0, 0 },
-    { BYTES("EAS\0\1\0\1\1A\1" VALUES), 0, 1 },
-    { BYTES("EAS\0\1\0\2\1A\1" VALUES "\2A\0\2" VALUES), 0, 2 },
-    { BYTES(""), 2, 0 },
-    { BYTES("EAS\0\1\0"), 2, 0 },
-    { BYTES("EAT\0\1\0\0"), 2, 0 },
-    { BYTES("eas\0\2\0\0"), 2, 0 },
-    { BYTES("EAS\0\2\0\0"), 3, 0 },
-    { BYTES("EAS\1\1\0\0"), 3, 0 },
-    { BYTES("EAS\1\0\0\1\0"), 3, 0 },
-    { BYTES("EAS\0\1\0\1"), 4, 0 },
-    { BYTES("EAS\0\1\0\1\0"), 5, 0 },
-    { BYTES("EAS\0\1\0\1\x29"), 5, 0 },
-    { BYTES("EAS\0\1\0\1\x28"), 4, 0 },
-    { BYTES("EAS\0\1\0\1\1A\3\0\0\0\0\0\0\0\0\0\0\0\0\0\0\0"), 4, 0 },
-    { BYTES("EAS\0\1\0\1\1A\0" VALUES), 6, 0 },
-    { BYTES("EAS\0\1\0\1\1A\3" VALUES "x"), 6, 0 },
-    { BYTES("EAS\0\1\0\2\1A\1" VALUES "\1A\1" VALUES), 16, 0 },
-    { BYTES("EAS\0\1\0\2\1A\1" VALUES "\1A\3" VALUES), 6, 0 },
-    { BYTES("EAS\0\1\0\3\1A\1" VALUES "\1A\1" VALUES "\0"), 16, 0 },
-    { BYTES("EAS\0\1\0\1\1A\1" VALUES "\0"), 4, 0 },
-    { BYTES("EAS\0\1\1\0\1A\1" VALUES), 4, 0 },
+    {BYTES("EAS\0\1\0\0"), 0, 0},
+    {BYTES("EAS\0\1\0\1\1A\1" VALUES), 0, 1},
+    {BYTES("EAS\0\1\0\2\1A\1" VALUES "\2A\0\2" VALUES), 0, 2},
+    {BYTES(""), 2, 0},
+    {BYTES("EAS\0\1\0"), 2, 0},
+    {BYTES("EAT\0\1\0\0"), 2, 0},
+    {BYTES("eas\0\2\0\0"), 2, 0},
+    {BYTES("EAS\0\2\0\0"), 3, 0},
+    {BYTES("EAS\1\1\0\0"), 3, 0},
+    {BYTES("EAS\1\0\0\1\0"), 3, 0},
+    {BYTES("EAS\0\1\0\1"), 4, 0},
+    {BYTES("EAS\0\1\0\1\0"), 5, 0},
+    {BYTES("EAS\0\1\0\1\x29"), 5, 0},
+    {BYTES("EAS\0\1\0\1\x28"), 4, 0},
+    {BYTES("EAS\0\1\0\1\1A\3\0\0\0\0\0\0\0\0\0\0\0\0\0\0\0"), 4, 0},
+    {BYTES("EAS\0\1\0\1\1A\0" VALUES), 6, 0},
+    {BYTES("EAS\0\1\0\1\1A\3" VALUES "x"), 6, 0},
+    {BYTES("EAS\0\1\0\2\1A\1" VALUES "\1A\1" VALUES), 16, 0},
+    {BYTES("EAS\0\1\0\2\1A\1" VALUES "\1A\3" VALUES), 6, 0},
+    {BYTES("EAS\0\1\0\3\1A\1" VALUES "\1A\1" VALUES "\0"), 16, 0},
+    {BYTES("EAS\0\1\0\1\1A\1" VALUES "\0"), 4, 0},
+    {BYTES("EAS\0\1\1\0\1A\1" VALUES), 4, 0},
 };
 
 static parsed_sheet parsed;
 
-static void test_sheets(void)
-{
+static void test_sheets(void) {
     for (size_t i = 0; i < LENGTH(sheets); i++) {
         tally_case("sheet", i);
         sheet_parse(&parsed, sheets[i].bytes, sheets[i].n);
@@ -55,8 +54,7 @@ static void test_sheets(void)
     }
 }
 
-static void test_sheet_lengths(void)
-{
+static void test_sheet_lengths(void) {
     static uint8_t large[65537] = "EAT";
     sheet_parse(&parsed, large, sizeof large);
     tally_check(parsed.number == 1, "too long comes before a wrong mark");
@@ -64,8 +62,7 @@ static void test_sheet_lengths(void)
     tally_check(parsed.number == 2, "65,536 bytes are not too long");
 }
 
-static void test_finding(void)
-{
+static void test_finding(void) {
     tally_case("finding", 0);
     sheet_parse(&parsed, sheets[2].bytes, sheets[2].n);
     eas_record found = sheet_find(&parsed, sheets[2].bytes, BYTES("%41%00"));
@@ -88,27 +85,26 @@ static const struct {
     const char *name;
     size_t length;
 } readings[] = {
-    { BYTES("nose%2fcap%201"), 0, "nose/cap 1", 10 },
-    { BYTES("nose%2Fcap%201"), 0, "nose/cap 1", 10 },
-    { BYTES("%41%2541"), 0, "A%41", 4 },
-    { BYTES("-._~"), 0, "-._~", 4 },
-    { BYTES("%00"), 0, "\0", 1 },
-    { BYTES("%fF"), 0, "\xff", 1 },
-    { BYTES(TEN TEN TEN TEN), 0, TEN TEN TEN TEN, 40 },
-    { BYTES(TEN TEN TEN TEN "K"), 8, "", 0 },
-    { BYTES(TEN TEN TEN TEN "K/"), 7, "", 0 },
-    { BYTES(""), 8, "", 0 },
-    { BYTES("a%2"), 7, "", 0 },
-    { BYTES("a%"), 7, "", 0 },
-    { BYTES("%g0"), 7, "", 0 },
-    { BYTES("%0G"), 7, "", 0 },
-    { BYTES("a b"), 7, "", 0 },
-    { BYTES("a+b"), 7, "", 0 },
-    { BYTES("\x80"), 7, "", 0 },
+    {BYTES("nose%2fcap%201"), 0, "nose/cap 1", 10},
+    {BYTES("nose%2Fcap%201"), 0, "nose/cap 1", 10},
+    {BYTES("%41%2541"), 0, "A%41", 4},
+    {BYTES("-._~"), 0, "-._~", 4},
+    {BYTES("%00"), 0, "\0", 1},
+    {BYTES("%fF"), 0, "\xff", 1},
+    {BYTES(TEN TEN TEN TEN), 0, TEN TEN TEN TEN, 40},
+    {BYTES(TEN TEN TEN TEN "K"), 8, "", 0},
+    {BYTES(TEN TEN TEN TEN "K/"), 7, "", 0},
+    {BYTES(""), 8, "", 0},
+    {BYTES("a%2"), 7, "", 0},
+    {BYTES("a%"), 7, "", 0},
+    {BYTES("%g0"), 7, "", 0},
+    {BYTES("%0G"), 7, "", 0},
+    {BYTES("a b"), 7, "", 0},
+    {BYTES("a+b"), 7, "", 0},
+    {BYTES("\x80"), 7, "", 0},
 };
 
-static void test_names(void)
-{
+static void test_names(void) {
     for (size_t i = 0; i < LENGTH(readings); i++) {
         tally_case("reading", i);
         read_name name = name_read(readings[i].spelled, readings[i].n);
@@ -122,17 +118,16 @@ static void test_names(void)
     tally_check(name_write(BYTES("")).number == 8 && name_write(BYTES(TEN TEN TEN TEN "K")).number == 8, "lengths");
 }
 
-static void test_lines_and_marks(void)
-{
+static void test_lines_and_marks(void) {
     static const struct {
         const char *spelled, *line;
         eas_answer answer;
     } lines[] = {
-        { "nose%2fcap%201", "nose%2Fcap%201 T 0 0 273213936\n", { .letter = 'T', .value = 273213936 } },
-        { "42", "42 S 0 0 61182203\n", { .letter = 'S', .value = 61182203 } },
-        { "hot", "hot ! 13\n", { .number = 13, .letter = 'T', .y = -1000000, .z = 3000000 } },
-        { "a%2", "? ! 7\n", { .number = 7 } },
-        { "n", "n S -7000000 -1 5\n", { .letter = 'S', .y = -7000000, .z = -1, .value = 5 } },
+        {"nose%2fcap%201", "nose%2Fcap%201 T 0 0 273213936\n", {.letter = 'T', .value = 273213936}},
+        {"42", "42 S 0 0 61182203\n", {.letter = 'S', .value = 61182203}},
+        {"hot", "hot ! 13\n", {.number = 13, .letter = 'T', .y = -1000000, .z = 3000000}},
+        {"a%2", "? ! 7\n", {.number = 7}},
+        {"n", "n S -7000000 -1 5\n", {.letter = 'S', .y = -7000000, .z = -1, .value = 5}},
     };
     for (size_t i = 0; i < LENGTH(lines); i++) {
         tally_case("line", i);
@@ -145,8 +140,7 @@ static void test_lines_and_marks(void)
     tally_check(point.blank == 0 && point.point.across == 0 && point.point.up == 5, "point mark");
 }
 
-void test_texts(void)
-{
+void test_texts(void) {
     test_sheets();
     test_sheet_lengths();
     test_finding();

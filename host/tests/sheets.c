@@ -5,22 +5,19 @@
 
 #include "states.h"
 
-static void put(tried_sheet *s, uint64_t number, int bytes)
-{
+static void put(tried_sheet *s, uint64_t number, int bytes) {
     for (int i = bytes - 1; i >= 0; i--)
         if (s->n < SHEET_ROOM)
             s->bytes[s->n++] = (uint8_t)(number >> (8 * i));
 }
 
-static uint8_t random_byte(random_source *r)
-{
+static uint8_t random_byte(random_source *r) {
     static const char likely[] = "azAZ09-._~%/ +@[`{\0\xff\n2fF";
     return random_below(r, 3) == 0 ? (uint8_t)random_bits(r) : (uint8_t)likely[random_below(r, sizeof likely - 1)];
 }
 
-void random_name(tried_bytes *out, random_source *r)
-{
-    static const size_t edges[] = { 0, 1, 2, 39, 40, 41 };
+void random_name(tried_bytes *out, random_source *r) {
+    static const size_t edges[] = {0, 1, 2, 39, 40, 41};
     out->n = random_below(r, 4) == 0 ? edges[random_below(r, 6)] : 1 + random_below(r, random_below(r, 2) ? 40 : 3);
     for (size_t i = 0; i < out->n; i++)
         out->bytes[i] = random_byte(r);
@@ -29,11 +26,10 @@ void random_name(tried_bytes *out, random_source *r)
 /* Damages of a record while it is written. */
 typedef enum { LENGTH_ZERO, LENGTH_41, LENGTH_ANY, LENGTH_LESS, KIND_WRONG, NAME_AGAIN, RECORD_DAMAGES } record_damage;
 
-static void put_record(tried_sheet *s, random_source *r, const tried_bytes *name, int damage)
-{
+static void put_record(tried_sheet *s, random_source *r, const tried_bytes *name, int damage) {
     uint8_t length = (uint8_t)name->n, kind = (uint8_t)(1 + random_below(r, 2));
     air_state state = random_below(r, 4) == 0 ? random_state(r) : plane_state(r, kind);
-    static const uint8_t wrong_kinds[] = { 0, 3, 4, 49, 50, 255 };
+    static const uint8_t wrong_kinds[] = {0, 3, 4, 49, 50, 255};
     if (damage == LENGTH_ZERO)
         length = 0;
     if (damage == LENGTH_41)
@@ -53,8 +49,7 @@ static void put_record(tried_sheet *s, random_source *r, const tried_bytes *name
 }
 
 /* A name that no record before it has: its last bytes are its index. */
-static void distinct_name(tried_bytes *name, random_source *r, size_t index, bool shortest)
-{
+static void distinct_name(tried_bytes *name, random_source *r, size_t index, bool shortest) {
     if (index < 256 && (shortest || random_below(r, 4) == 0)) {
         name->n = 1;
         name->bytes[0] = (uint8_t)index;
@@ -69,9 +64,8 @@ static void distinct_name(tried_bytes *name, random_source *r, size_t index, boo
 
 /* Writes records up to a count, the one at `damaged` with its damage. A large sheet ends at 65,536 bytes: its last
  * record takes what is left, its name 21 to 40 bytes long. */
-static size_t put_records(tried_sheet *s, random_source *r, size_t count, size_t damaged, int damage, bool large)
-{
-    tried_bytes name = { 0 }, kept = { 0 };
+static size_t put_records(tried_sheet *s, random_source *r, size_t count, size_t damaged, int damage, bool large) {
+    tried_bytes name = {0}, kept = {0};
     size_t written = 0;
     for (; written < count && s->n < 65536; written++) {
         distinct_name(&name, r, written, large);
@@ -87,8 +81,7 @@ static size_t put_records(tried_sheet *s, random_source *r, size_t count, size_t
 }
 
 /* Damages of a finished sheet. */
-static void damage_sheet(tried_sheet *s, random_source *r)
-{
+static void damage_sheet(tried_sheet *s, random_source *r) {
     size_t at = s->n == 0 ? 0 : random_below(r, s->n);
     switch (random_below(r, 9)) {
     case 0:
@@ -122,16 +115,14 @@ static void damage_sheet(tried_sheet *s, random_source *r)
 }
 
 /* Fills up to a length at or beyond the limit with a byte. */
-static void stretch(tried_sheet *s, random_source *r)
-{
+static void stretch(tried_sheet *s, random_source *r) {
     size_t wanted = 65536 - 2 + random_below(r, 5);
     while (s->n < wanted)
         s->bytes[s->n++] = 0;
     s->n = wanted;
 }
 
-void random_sheet(tried_sheet *out, random_source *r, int large)
-{
+void random_sheet(tried_sheet *out, random_source *r, int large) {
     size_t count = large ? 4000 : random_below(r, 8) == 0 ? 60 : random_below(r, 7);
     size_t damaged = random_below(r, count + 1);
     int damage = random_below(r, 3) == 0 ? (int)random_below(r, RECORD_DAMAGES) : RECORD_DAMAGES;
@@ -148,14 +139,12 @@ void random_sheet(tried_sheet *out, random_source *r, int large)
         stretch(out, r);
 }
 
-static bool needs_percent(uint8_t byte)
-{
+static bool needs_percent(uint8_t byte) {
     static const char plain[] = "ABCDEFGHIJKLMNOPQRSTUVWXYZabcdefghijklmnopqrstuvwxyz0123456789-._~";
     return byte == 0 || strchr(plain, byte) == NULL;
 }
 
-void random_spelling_of(tried_bytes *out, random_source *r, const uint8_t *name, size_t n)
-{
+void random_spelling_of(tried_bytes *out, random_source *r, const uint8_t *name, size_t n) {
     static const char digits[] = "0123456789ABCDEF0123456789abcdef";
     out->n = 0;
     for (size_t i = 0; i < n; i++) {
@@ -169,8 +158,7 @@ void random_spelling_of(tried_bytes *out, random_source *r, const uint8_t *name,
     }
 }
 
-void random_spelling(tried_bytes *out, random_source *r)
-{
+void random_spelling(tried_bytes *out, random_source *r) {
     tried_bytes name;
     if (random_below(r, 8) == 0) {
         out->n = random_below(r, 2) ? random_below(r, 6) : random_below(r, 200);

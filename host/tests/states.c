@@ -9,31 +9,29 @@
 #define LENGTH(array) (sizeof(array) / sizeof((array)[0]))
 
 /* Density edges, strip edges, extremes, standards. */
-static const int64_t y_edges[] = { -7000000, -6000000, -5000000, -4525000, -4500000, -4475000, -2000000, -1000000,
-                                   -505000,  -500000,  -495000,  0,        1000000,  2000000,  3000000 };
+static const int64_t y_edges[] = {-7000000, -6000000, -5000000, -4525000, -4500000, -4475000, -2000000, -1000000,
+                                  -505000,  -500000,  -495000,  0,        1000000,  2000000,  3000000};
 /* Window, perfect gas, piece ends; and limits and extremes of the entropy's Z. */
-static const int64_t temperature_edges[] = { -1000000, 0,       250000,  650000,  950000, 1400000,
-                                             1450000,  1950000, 2000000, 2500000, 3000000 };
-static const int64_t entropy_edges[] = { -1000000, 0,       400000,  650000,  1000000, 2000000,
-                                         3000000,  3400000, 3500000, 3690000, 4000000 };
-static const uint64_t odd_values[] = { 0,         1,         2,         E_MIN - 1, E_MIN,     E_MIN + 1,
-                                       E0,        P0,        E_MAX - 1, E_MAX,     E_MAX + 1, P_MAX - 1,
-                                       P_MAX,     P_MAX + 1, D_MIN,     D_MAX,     INT64_MAX, INT64_MAX + UINT64_C(1),
-                                       UINT64_MAX };
-static const uint64_t odd_densities[] = { 0,     1,         D_MIN - 1, D_MIN,     D_MIN + 1, D0,
-                                          D_MAX, D_MAX - 1, D_MAX + 1, INT64_MAX, UINT64_MAX };
-static const uint8_t odd_kinds[] = { 0, 1, 2, 3, 4, 49, 128, 255 };
+static const int64_t temperature_edges[] = {-1000000, 0,       250000,  650000,  950000, 1400000,
+                                            1450000,  1950000, 2000000, 2500000, 3000000};
+static const int64_t entropy_edges[] = {-1000000, 0,       400000,  650000,  1000000, 2000000,
+                                        3000000,  3400000, 3500000, 3690000, 4000000};
+static const uint64_t odd_values[] = {0,         1,         2,         E_MIN - 1, E_MIN,     E_MIN + 1,
+                                      E0,        P0,        E_MAX - 1, E_MAX,     E_MAX + 1, P_MAX - 1,
+                                      P_MAX,     P_MAX + 1, D_MIN,     D_MAX,     INT64_MAX, INT64_MAX + UINT64_C(1),
+                                      UINT64_MAX};
+static const uint64_t odd_densities[] = {0,     1,         D_MIN - 1, D_MIN,     D_MIN + 1, D0,
+                                         D_MAX, D_MAX - 1, D_MAX + 1, INT64_MAX, UINT64_MAX};
+static const uint8_t odd_kinds[] = {0, 1, 2, 3, 4, 49, 128, 255};
 
 /* standard·10^(millionths/1,000,000), to the nearest whole number, 1 at least. */
-static uint64_t scaled(uint64_t standard, int64_t millionths)
-{
+static uint64_t scaled(uint64_t standard, int64_t millionths) {
     long double value = roundl((long double)standard * powl(10.0L, (long double)millionths / 1000000.0L));
     return value < 1.0L ? 1 : value > 1.8e19L ? UINT64_MAX : (uint64_t)value;
 }
 
-air_state state_near(uint8_t kind, int64_t y, int64_t z)
-{
-    air_state s = { .kind = kind, .second = scaled(D0, y) };
+air_state state_near(uint8_t kind, int64_t y, int64_t z) {
+    air_state s = {.kind = kind, .second = scaled(D0, y)};
     s.first = kind == 1 ? scaled(P0, y + z) : scaled(E0, z);
     return s;
 }
@@ -41,8 +39,7 @@ air_state state_near(uint8_t kind, int64_t y, int64_t z)
 static air_state *list;
 static size_t used, room;
 
-static void add(air_state s)
-{
+static void add(air_state s) {
     if (used == room) {
         room = room == 0 ? 4096 : 2 * room;
         list = realloc(list, room * sizeof list[0]);
@@ -55,8 +52,7 @@ static void add(air_state s)
 }
 
 /* A point and its neighbours: two millionths to each side, and one whole number to each side of the values. */
-static void add_around(uint8_t kind, int64_t y, int64_t z)
-{
+static void add_around(uint8_t kind, int64_t y, int64_t z) {
     for (int64_t dy = -1; dy <= 1; dy++)
         for (int64_t dz = -2; dz <= 2; dz++)
             add(state_near(kind, y + dy, z + dz));
@@ -70,8 +66,7 @@ static void add_around(uint8_t kind, int64_t y, int64_t z)
     }
 }
 
-static void add_plane_edges(void)
-{
+static void add_plane_edges(void) {
     for (size_t i = 0; i < LENGTH(y_edges); i++) {
         for (size_t j = 0; j < LENGTH(temperature_edges); j++)
             add_around(1, y_edges[i], temperature_edges[j]);
@@ -81,8 +76,7 @@ static void add_plane_edges(void)
 }
 
 /* Where an exponent passes zero, for densities over the whole range. */
-static void add_transitions(void)
-{
+static void add_transitions(void) {
     for (int64_t y = -7000000; y <= 3000000; y += 125000) {
         for (int64_t start = 950001; start <= 3000000; start += 50000) {
             const temperature_piece *piece = piece_at(y, start);
@@ -97,8 +91,7 @@ static void add_transitions(void)
 }
 
 /* G by the nearest weight. */
-static int64_t fit_near(int64_t y, int64_t z)
-{
+static int64_t fit_near(int64_t y, int64_t z) {
     const temperature_piece *piece = piece_at(y, z);
     long double q = (long double)exponent(piece->exponent, y, z) / 1.0e10L;
     return (int64_t)fitted(piece, y, z, llrintl(1.0e10L / (1.0L + expl(q))));
@@ -106,11 +99,10 @@ static int64_t fit_near(int64_t y, int64_t z)
 
 /* Where G passes its upper limit (it comes nowhere near the lower one), then points where G is the upper limit itself
  * or one unit more. */
-static void add_fit_limits(void)
-{
-    static const int64_t points[][2] = { { -2919599, 2589131 }, { -2856625, 2588004 }, { -1869428, 2563264 },
-                                         { -1185631, 2536620 }, { -2903467, 2588847 }, { -1713843, 2557991 },
-                                         { -577462, 2503565 },  { 1139227, 2454118 } };
+static void add_fit_limits(void) {
+    static const int64_t points[][2] = {{-2919599, 2589131}, {-2856625, 2588004}, {-1869428, 2563264},
+                                        {-1185631, 2536620}, {-2903467, 2588847}, {-1713843, 2557991},
+                                        {-577462, 2503565},  {1139227, 2454118}};
     const int64_t limit = HIGHEST_FIT, stride = 20000;
     for (int64_t y = -7000000; y <= 3000000; y += 250000) {
         for (int64_t z = 2000000; z < HIGHEST_Z; z += stride) {
@@ -133,18 +125,16 @@ static void add_fit_limits(void)
 }
 
 /* Every kind with standard values; every pair of values at and beyond the ranges' ends, for known and unknown kinds. */
-static void add_odd_values(void)
-{
+static void add_odd_values(void) {
     for (unsigned kind = 0; kind < 256; kind++)
-        add((air_state){ (uint8_t)kind, P0, D0 });
+        add((air_state){(uint8_t)kind, P0, D0});
     for (size_t k = 0; k < LENGTH(odd_kinds); k++)
         for (size_t i = 0; i < LENGTH(odd_values); i++)
             for (size_t j = 0; j < LENGTH(odd_densities); j++)
-                add((air_state){ odd_kinds[k], odd_values[i], odd_densities[j] });
+                add((air_state){odd_kinds[k], odd_values[i], odd_densities[j]});
 }
 
-const air_state *edge_states(size_t *count)
-{
+const air_state *edge_states(size_t *count) {
     if (used == 0) {
         add_plane_edges();
         add_transitions();
@@ -155,15 +145,13 @@ const air_state *edge_states(size_t *count)
     return list;
 }
 
-air_state plane_state(random_source *r, uint8_t kind)
-{
+air_state plane_state(random_source *r, uint8_t kind) {
     int64_t y = random_between(r, -6999990, 2999990);
     return state_near(kind, y, kind == 1 ? random_between(r, -999000, 2999000) : random_between(r, -999000, 4105000));
 }
 
 /* Within twenty millionths of an edge in one direction or in both. */
-static air_state state_near_edge(random_source *r, uint8_t kind)
-{
+static air_state state_near_edge(random_source *r, uint8_t kind) {
     int64_t y = y_edges[random_below(r, LENGTH(y_edges))];
     int64_t z = kind == 1 ? temperature_edges[random_below(r, LENGTH(temperature_edges))]
                           : entropy_edges[random_below(r, LENGTH(entropy_edges))];
@@ -176,29 +164,26 @@ static air_state state_near_edge(random_source *r, uint8_t kind)
 }
 
 /* Inside a strip, or next to its ends. */
-static air_state state_in_strip(random_source *r, uint8_t kind)
-{
+static air_state state_in_strip(random_source *r, uint8_t kind) {
     int64_t y = random_below(r, 2) ? random_between(r, -4525003, -4474997) : random_between(r, -505003, -494997);
     return state_near(kind, y, random_between(r, -999000, 3700000));
 }
 
 /* Log-uniform over a range that is a little wider than the allowed one. */
-static uint64_t any_size(random_source *r, uint64_t low, uint64_t high)
-{
+static uint64_t any_size(random_source *r, uint64_t low, uint64_t high) {
     double from = log((double)low) - 0.05, to = log((double)high) + 0.05;
     return (uint64_t)exp(from + (to - from) * random_unit(r));
 }
 
-air_state random_state(random_source *r)
-{
+air_state random_state(random_source *r) {
     uint8_t kind = (uint8_t)(1 + random_below(r, 2));
     switch (random_below(r, 16)) {
     case 0:
-        return (air_state){ (uint8_t)random_bits(r), random_bits(r) >> random_below(r, 64),
-                            random_bits(r) >> random_below(r, 64) };
+        return (air_state){(uint8_t)random_bits(r), random_bits(r) >> random_below(r, 64),
+                           random_bits(r) >> random_below(r, 64)};
     case 1:
-        return (air_state){ kind, kind == 1 ? any_size(r, P_MIN, P_MAX) : any_size(r, E_MIN, E_MAX),
-                            any_size(r, D_MIN, D_MAX) };
+        return (air_state){kind, kind == 1 ? any_size(r, P_MIN, P_MAX) : any_size(r, E_MIN, E_MAX),
+                           any_size(r, D_MIN, D_MAX)};
     case 2:
     case 3:
     case 4:

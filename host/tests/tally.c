@@ -13,8 +13,7 @@ static const char *program;
 static const char *part = "start";
 static uint64_t seed, case_index, checks, failures;
 
-static void on_fault(int signal_number)
-{
+static void on_fault(int signal_number) {
     char text[256];
     int n = snprintf(text, sizeof text, "%s: signal %d, seed %" PRIu64 ", %s case %" PRIu64 "\n", program,
                      signal_number, seed, part, case_index);
@@ -23,11 +22,10 @@ static void on_fault(int signal_number)
     _exit(2);
 }
 
-void tally_start(const char *name, uint64_t from)
-{
+void tally_start(const char *name, uint64_t from) {
     program = name;
     seed = from;
-    struct sigaction action = { .sa_handler = on_fault };
+    struct sigaction action = {.sa_handler = on_fault};
     sigaction(SIGSEGV, &action, NULL);
     sigaction(SIGBUS, &action, NULL);
     sigaction(SIGILL, &action, NULL);
@@ -36,14 +34,12 @@ void tally_start(const char *name, uint64_t from)
     printf("%s: seed %" PRIu64 "\n", program, seed);
 }
 
-void tally_case(const char *name, uint64_t index)
-{
+void tally_case(const char *name, uint64_t index) {
     part = name;
     case_index = index;
 }
 
-bool tally_check(bool held, const char *format, ...)
-{
+bool tally_check(bool held, const char *format, ...) {
     checks++;
     if (held)
         return true;
@@ -59,8 +55,7 @@ bool tally_check(bool held, const char *format, ...)
     return false;
 }
 
-void tally_note(const char *format, ...)
-{
+void tally_note(const char *format, ...) {
     if (failures > SHOWN_FAILURES)
         return;
     va_list values;
@@ -71,8 +66,7 @@ void tally_note(const char *format, ...)
     printf("\n");
 }
 
-void tally_hex(const char *what, const uint8_t *bytes, size_t n)
-{
+void tally_hex(const char *what, const uint8_t *bytes, size_t n) {
     if (failures > SHOWN_FAILURES)
         return;
     printf("    %s, %zu bytes: ", what, n);
@@ -81,16 +75,14 @@ void tally_hex(const char *what, const uint8_t *bytes, size_t n)
     printf("\n");
 }
 
-void tally_answer(const char *what, const eas_answer *a)
-{
+void tally_answer(const char *what, const eas_answer *a) {
     tally_note("%s: number %" PRIu32 " letter %" PRIu32 " carries %" PRIu32 " x %" PRId64 " y %" PRId64 " z %" PRId64
                " value %" PRId64 " low %" PRId64 " %" PRId64 " %" PRId64 " high %" PRId64 " %" PRId64 " %" PRId64,
                what, a->number, a->letter, a->carries, a->x, a->y, a->z, a->value, a->low.fit, a->low.weight,
                a->low.value, a->high.fit, a->high.weight, a->high.value);
 }
 
-int tally_end(void)
-{
+int tally_end(void) {
     printf("%s: %" PRIu64 " checks, %" PRIu64 " failures\n", program, checks, failures);
     return failures == 0 ? 0 : 1;
 }
