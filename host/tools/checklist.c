@@ -1,232 +1,242 @@
-/* checklist [SHEET]...: five checks that a field engineer makes of an installed calculator, on the given sheets and on
- * the sample sheets of SAMPLES.
- *
- *   1 band edge      a temperature at a density edge is fitted by the lower band
- *   2 weight         G is A + W·B: the weight goes to the second bicubic and falls as the exponent grows
- *   3 rounding       a negative fraction is rounded down, not toward zero
- *   4 strip          entropy is joined strictly inside a strip and not at the strip's own edges, whose limit of Z is
- *                    their own band's
- *   5 spelling       a name is found by either case of its hexadecimal digits, and is decoded once
- *
- * A line a sheet and check: the verdict, how many states it applied to, and the state it looked at last (the one at
- * fault where a check fails). The exit status is 1 where a check fails or applies to no sheet at all. */
-#include <math.h>
+/* checklist [SHEET]...: the field engineer's five checks of an installed calculator, on each given sheet and on the
+ * shipped samples. docs/CHECKLIST.md says what each check is and what it catches. */
 #include <string.h>
 
-#include "bench/tgas.h"
-#include "common.h"
+#include "checklist_judge.h"
+#include "decimal.h"
+#include "kinds.h"
+#include "options.h"
+#include "utf8.h"
 
 #ifndef SAMPLES
 #define SAMPLES "samples"
 #endif
 
-typedef __int128 wide;
+static const char help[] = "Makes the field engineer's five checks on each SHEET and on the shipped samples.\n"
+                           "Every name is asked for as a user does: by search, as a plot mark, as a listing line\n"
+                           "and in a run list of all names. What is shown is compared with an exact calculation\n"
+                           "that shares no code with the library. A check that lacks a state in a SHEET says so\n"
+                           "and is no pass for it: the status is 0 only where every check passed, else 1.";
 
-enum { EDGE_LOW = -4500000, EDGE_HIGH = -500000, HALF_LOW = 25000, HALF_HIGH = 5000 };
+static const char *const samples[] = {"sample", "slash-and-space", "digits-only", "edges-and-transitions"};
 
-/* The fit's units that doubles and the library's rounding may differ by: a few hundred roundings and the weight's own
- * tolerance of 10 units times the largest B. */
-static const double FIT_UNITS = 10000;
+enum { SAMPLE_COUNT = sizeof samples / sizeof *samples, LEFT = 4, INDENT = 7 };
 
-typedef enum { DOES_NOT_APPLY, FULFILLED, FAILED } verdict;
-
-/* A sheet with one of its states and that state's answer. */
-typedef struct {
-    const uint8_t *sheet;
-    size_t n;
-    state s;
-    eas_answer answer;
-} subject;
-
-typedef struct {
-    const char *name;
-    verdict (*judge)(const subject *);
-    unsigned applied;
-} check;
-
-static int64_t round_down(wide numerator, wide denominator) {
-    wide quotient = numerator / denominator;
-    return (int64_t)(quotient * denominator > numerator ? quotient - 1 : quotient);
-}
-
-static verdict judged(int fulfilled) {
-    return fulfilled ? FULFILLED : FAILED;
-}
-
-static int is_fitted_temperature(const eas_answer *a) {
-    return a->letter == 'T' && a->carries & EAS_CARRIES_LOW;
-}
-
-/* How far G lies from a value in the fit's unit. */
-static double distance(const eas_answer *a, double fit) {
-    return fabs((double)a->low.fit - 1e10 * fit);
-}
-
-static verdict band_edge(const subject *t) {
-    const eas_answer *a = &t->answer;
-    if (!is_fitted_temperature(a) || (a->y != EDGE_LOW && a->y != EDGE_HIGH))
-        return DOES_NOT_APPLY;
-    double y = (double)a->y / 1e6, z = (double)a->z / 1e6;
-    int lower = a->y == EDGE_LOW ? LOW : MIDDLE;
-    double below = distance(a, tgas1_fit(tgas1_parts(lower, y, z)));
-    double above = distance(a, tgas1_fit(tgas1_parts(lower + 1, y, z)));
-    return judged(below <= FIT_UNITS && below < above);
-}
-
-/* The weight is told from its misreadings only where it is neither 0 nor 1 nor one half. */
-static verdict weight(const subject *t) {
-    const eas_answer *a = &t->answer;
-    if (!is_fitted_temperature(a))
-        return DOES_NOT_APPLY;
-    double y = (double)a->y / 1e6, z = (double)a->z / 1e6, w = (double)a->low.weight / 1e10;
-    tgas_parts parts = tgas1_parts(tgas_band(y), y, z);
-    if (!parts.weighted || w < 1e-5 || w > 1 - 1e-5 || fabs(w - 0.5) < 1e-5)
-        return DOES_NOT_APPLY;
-    int takes_b = distance(a, parts.a + w * parts.b) <= FIT_UNITS;
-    int falls = fabs(w - 1 / (1 + exp(parts.exponent))) < 1e-8;
-    return judged(takes_b && falls);
-}
-
-static int64_t absolute(int64_t number) {
-    return number < 0 ? -number : number;
-}
-
-/* Whether y lies strictly inside a strip. */
-static int in_strip(int64_t y) {
-    return absolute(y - EDGE_LOW) < HALF_LOW || absolute(y - EDGE_HIGH) < HALF_HIGH;
-}
-
-/* Entropy up to Z = 0.65, where the formula's fraction is negative and not whole. */
-static verdict rounding(const subject *t) {
-    const eas_answer *a = &t->answer;
-    wide unit = (wide)2 * 10000000000, m = 5 * ((wide)a->z - 400000) - 2 * (wide)a->y, fraction = m * 28706 * 2302585;
-    if (a->letter != 'S' || a->number || a->z > 650000 || in_strip(a->y))
-        return DOES_NOT_APPLY;
-    if (fraction >= 0 || fraction % unit == 0)
-        return DOES_NOT_APPLY;
-    return judged(a->value == 67792004 + round_down(fraction, unit));
-}
-
-/* Inside a strip the value lies on the straight line between the entropies at its edges, at an edge it is the band's
- * own: both within demand 3's distance. */
-static int is_value(const eas_answer *a, int inside) {
-    double y = (double)a->y / 1e6, z = (double)a->z / 1e6;
-    double exact = inside ? tgas2_joined(y, z) : tgas2_plain(tgas_band(y), y, z);
-    return fabs((double)a->value - 1e4 * exact) < 4;
-}
-
-/* The largest Z of the band that y belongs to. */
-static int64_t limit(int64_t y) {
-    return y <= EDGE_LOW ? 3690000 : y <= EDGE_HIGH ? 3400000 : 3000000;
-}
-
-static verdict strip(const subject *t) {
-    const eas_answer *a = &t->answer;
-    if (a->letter != 'S' || !(a->carries & EAS_CARRIES_LOGS))
-        return DOES_NOT_APPLY;
-    int64_t edge = absolute(a->y - EDGE_LOW) <= HALF_LOW ? EDGE_LOW : EDGE_HIGH;
-    int64_t half = edge == EDGE_LOW ? HALF_LOW : HALF_HIGH, away = absolute(a->y - edge);
-    if (away > half)
-        return DOES_NOT_APPLY;
-    int inside = away < half;
-    if (a->number)
-        return judged(a->z > limit(inside ? edge + half : a->y));
-    return judged(is_value(a, inside));
-}
-
-/* Every byte of the name as a percent form in the given digits. */
-static size_t spell_all(const state *s, const char *digits, uint8_t out[SPELLED_MOST]) {
-    for (size_t i = 0; i < s->length; i++) {
-        out[3 * i] = '%';
-        out[3 * i + 1] = (uint8_t)digits[s->name[i] >> 4];
-        out[3 * i + 2] = (uint8_t)digits[s->name[i] & 15];
-    }
-    return 3 * s->length;
-}
-
-static int finds(const subject *t, const uint8_t *spelled, size_t length) {
-    eas_record record = eas_find(t->sheet, t->n, spelled, length);
-    return record.number == 0 && t->sheet + record.start == t->s.name && record.length == t->s.length;
-}
-
-/* A name that has itself the form of a spelling must not be found by its own bytes. */
-static int decoded_once(const subject *t) {
-    uint8_t name[NAME_MOST];
-    eas_text read = eas_read(t->s.name, t->s.length, name);
-    int differs = !read.number && (read.length != t->s.length || memcmp(name, t->s.name, read.length));
-    return !differs || !finds(t, t->s.name, t->s.length);
-}
-
-static verdict spelling(const subject *t) {
-    uint8_t spelled[SPELLED_MOST];
-    return judged(finds(t, (const uint8_t *)t->s.spelled, t->s.spelled_length) &&
-                  finds(t, spelled, spell_all(&t->s, "0123456789ABCDEF", spelled)) &&
-                  finds(t, spelled, spell_all(&t->s, "0123456789abcdef", spelled)) && decoded_once(t));
-}
-
-static check checks[] = {
-    {"1 band edge", band_edge, 0}, {"2 weight", weight, 0},     {"3 rounding", rounding, 0},
-    {"4 strip", strip, 0},         {"5 spelling", spelling, 0},
+static const char *const titles[TALLIES] = {
+    [SIGNS] = "1. Names with slashes and spaces",
+    [DIGITS] = "2. Names that are numbers",
+    [EDGES] = "3. Density edges",
+    [TRANSITION] = "4. Hot state in a transition",
+    [RANGE] = "5. Outside the fitted range",
+    [OTHERS] = "   Every other state",
 };
 
-enum { CHECKS = sizeof checks / sizeof *checks };
+/* With a state that would do. */
+static const char *const place_words[PLACES] = {
+    [A_SIGN] = "a name with a slash, a space or another sign that is written as % and two digits",
+    [A_NUMBER] = "a name of digits only that is not the number of its row",
+    [ON_LOWER_EDGE] = "a hot state on the lower density edge (such as 12.756691 Pa, 0.00004085663 kg/m³)",
+    [ABOVE_LOWER_EDGE] =
+        "a hot state beside the lower density edge, a little denser (such as 13.053833 Pa, 0.0000418083 kg/m³)",
+    [ON_UPPER_EDGE] = "a hot state on the upper density edge (such as 127566.911977 Pa, 0.40856627369 kg/m³)",
+    [ABOVE_UPPER_EDGE] =
+        "a hot state beside the upper density edge, a little denser (such as 130538.327073 Pa, 0.41808300475 kg/m³)",
+    [BEFORE_MIDDLE] = "a hot state in a transition, before its middle (such as 4347.484504 Pa, 0.00408566274 kg/m³)",
+    [BEHIND_MIDDLE] = "a hot state in a transition, behind its middle (such as 4553.42348 Pa, 0.00408566274 kg/m³)",
+    [OUT_OF_REACH] =
+        "a pressure or energy that the fits do not cover at its density (such as 12756691.19771 Pa, 0.1292 kg/m³)",
+    [TOO_HOT] = "a state whose fitted temperature is too high (such as 10133000 Pa, 0.1292 kg/m³)",
+};
 
-static void tell(const char *path, const check *c, verdict v, unsigned applied, const subject *looked) {
-    static const char *const words[] = {"does not apply", "fulfilled", "FAILED"};
-    printf("%s: %-11s %s", path, c->name, words[v]);
-    if (v != DOES_NOT_APPLY) {
-        const eas_answer *a = &looked->answer;
-        printf(" (%u), %s: number %u, Y %lld, Z %lld, value %lld", applied, looked->s.spelled, a->number,
-               (long long)a->y, (long long)a->z, (long long)a->value);
+static const char *const cause_words[] = {
+    [RIGHT] = "right",
+    [NOT_FOUND] = "wrong: the sheet has this name",
+    [FOUND_ABSENT] = "wrong: no state has this name",
+    [ANOTHERS] = "wrong",
+    [UNDUE_VALUE] = "wrong: a value means nothing here",
+    [NEIGHBOURS] = "wrong: by the curve of the neighbouring density range",
+    [SIGN_LOST] = "wrong: the two curves of the transition are weighed the wrong way round",
+    [OTHERWISE] = "wrong",
+};
+
+typedef enum { PASSED, FAILED, INCOMPLETE, NO_STATE } verdict;
+
+static verdict verdict_of(int check, const tally *t) {
+    if (t->faulty || t->encoded)
+        return FAILED;
+    if (t->places == check_places[check])
+        return PASSED;
+    return t->places ? INCOMPLETE : NO_STATE;
+}
+
+/* ---- a fault in words */
+
+static void print_state(const eas_record *record) {
+    char first[DECIMAL_ROOM], second[DECIMAL_ROOM];
+    const kind_row *kind = kind_of(record->kind);
+    write_decimal(first, record->first, kind->first->decimals);
+    write_decimal(second, record->second, kind->second->decimals);
+    printf("%*s%s %s %s, %s %s %s\n", INDENT, "", kind->first->name, first, kind->first->unit, kind->second->name,
+           second, kind->second->unit);
+}
+
+static void print_due(const asked_name *name, const named_state *s) {
+    uint32_t number = name->absent ? 9 : s->right.number;
+    printf("%*s%-13s ", INDENT, "", "right is");
+    if (number)
+        printf("nothing: %s\n", eas_reason(number));
+    else if (s->allowed)
+        printf("%.6f %s\n", in_units(&s->record, s->truth.value), kind_of(s->record.kind)->wanted->unit);
+    else
+        printf("about %.3f %s\n", s->right.value, kind_of(s->record.kind)->wanted->unit);
+}
+
+static void print_shown(const fault *f, way w) {
+    static const char *const way_words[WAYS] = {"search", "plot mark", "listing line", "run list"};
+    const named_state *state = &f->sheet->states[f->name->state];
+    shown s = shown_by(f->name, w);
+    char text[128];
+    if (!s.readable)
+        snprintf(text, sizeof text, "no line that can be read");
+    else if (s.number)
+        snprintf(text, sizeof text, "nothing: %s", eas_reason(s.number));
+    else if (f->name->absent)
+        snprintf(text, sizeof text, "a value");
+    else
+        snprintf(text, sizeof text, "%.6f %s", in_units(&state->record, s.value),
+                 kind_of(state->record.kind)->wanted->unit);
+    printf("%*s%-13s %s (%s", INDENT, "", way_words[w], text, cause_words[f->causes[w]]);
+    size_t other = f->causes[w] == RIGHT ? SIZE_MAX : state_shown(f->sheet, f->name, &s);
+    if (other != SIZE_MAX) {
+        const written_name *spelled = &f->sheet->states[other].spelled;
+        printf(", that is %.*s in row %zu", (int)spelled->length, (const char *)spelled->bytes, other + 1);
     }
+    printf(")\n");
+}
+
+static void print_fault(const tally *t) {
+    const fault *f = &t->first;
+    const named_state *state = &f->sheet->states[f->name->state];
+    printf("%*swrong for %u %s, first %.*s of %s\n", INDENT, "", t->faulty, t->faulty == 1 ? "name" : "names",
+           (int)f->name->length, (const char *)f->name->spelled, f->sheet->path);
+    if (!f->name->absent)
+        print_state(&state->record);
+    print_due(f->name, state);
+    for (way w = 0; w < WAYS; w++)
+        print_shown(f, w);
+}
+
+/* A name of the sheet letter for letter, spelled where that is no text. */
+static void print_raw(const asked_sheet *sheet, const named_state *s) {
+    const uint8_t *name = sheet->bytes + s->record.start;
+    if (is_text(name, s->record.length))
+        printf("%.*s", (int)s->record.length, (const char *)name);
+    else
+        printf("%.*s", (int)s->spelled.length, (const char *)s->spelled.bytes);
+}
+
+/* A name that still is as it was encoded on export. */
+static void print_encoded(const tally *t) {
+    const asked_name *name = t->encoded_name;
+    const named_state *s = &t->encoded_in->states[name->state];
+    printf("%*s%u %s encoded on export and never decoded, first ", INDENT, "", t->encoded,
+           t->encoded == 1 ? "name was" : "names were");
+    print_raw(t->encoded_in, s);
+    printf("\n%*sThe sheet holds this name with its percent signs, letter for letter. A run list that says\n", INDENT,
+           "");
+    printf("%*s%.*s finds no state, and the curve stays blank:\n", INDENT, "", (int)name->length,
+           (const char *)name->spelled);
+    printf("%*s%.*s", INDENT + 4, "", (int)name->listed.length, name->listed.bytes);
+    printf("%*sOnly %.*s finds it. Decode the names and export the sheet again.\n", INDENT, "", (int)s->spelled.length,
+           (const char *)s->spelled.bytes);
+}
+
+/* ---- a check in words */
+
+static void print_missing(int check, const tally *t) {
+    printf("%*smissing:\n", INDENT, "");
+    for (int p = 0; p < PLACES; p++)
+        if ((check_places[check] & ~t->places) >> p & 1)
+            printf("%*s- %s\n", INDENT + 2, "", place_words[p]);
+}
+
+static void print_verdict(verdict v, const tally *t, const char *whose) {
+    if (v == FAILED)
+        printf("FAILED");
+    else if (v == NO_STATE)
+        printf("NO STATE TO LOOK AT, no pass for %s", whose);
+    else if (v == INCOMPLETE)
+        printf("INCOMPLETE, no pass for %s", whose);
+    else
+        printf("PASSED at %u %s, such as %.*s", t->telling, t->telling == 1 ? "state" : "states",
+               (int)t->example->spelled.length, (const char *)t->example->spelled.bytes);
     printf("\n");
 }
 
-/* One check over all states of a sheet; 1 where it fails. */
-static int run_check(const char *path, const uint8_t *sheet, size_t n, check *c) {
-    subject looked = {.sheet = sheet, .n = n};
-    verdict all = DOES_NOT_APPLY;
-    unsigned applied = 0;
-    size_t at = HEAD;
-    for (unsigned left = record_count(sheet); left > 0 && all != FAILED; left--) {
-        subject t = {.sheet = sheet, .n = n, .s = next_state(sheet, &at)};
-        t.answer = search_state(sheet, n, &t.s);
-        verdict v = c->judge(&t);
-        if (v == DOES_NOT_APPLY)
-            continue;
-        all = v;
-        looked = t;
-        applied++;
-    }
-    c->applied += applied;
-    tell(path, c, all, applied, &looked);
-    return all == FAILED;
+static verdict print_check(int check, const tally *t, const char *whose) {
+    verdict v = verdict_of(check, t);
+    printf("%*s%-34s ", LEFT, "", titles[check]);
+    print_verdict(v, t, whose);
+    if (t->encoded)
+        print_encoded(t);
+    if (t->faulty)
+        print_fault(t);
+    if (v == NO_STATE || v == INCOMPLETE)
+        print_missing(check, t);
+    return v;
 }
 
-static int run_sheet(const char *path) {
-    static uint8_t sheet[SHEET_MOST + 1];
-    size_t n;
-    int failures = 0;
-    if (load_sheet(path, sheet, &n))
-        return 1;
-    for (int i = 0; i < CHECKS; i++)
-        failures += run_check(path, sheet, n, &checks[i]);
-    return failures;
+/* Prints the checks of a group; gives whether all passed. */
+static bool print_checks(const tally tallies[TALLIES], const char *whose) {
+    int counts[NO_STATE + 1] = {0};
+    const tally *others = &tallies[OTHERS];
+    for (int c = 0; c < CHECKS; c++)
+        counts[print_check(c, &tallies[c], whose)]++;
+    if (others->telling || others->faulty)
+        print_check(OTHERS, others, whose);
+    printf("%*sOf five checks %d passed, %d failed, %d lack a state.\n\n", LEFT, "", counts[PASSED], counts[FAILED],
+           counts[INCOMPLETE] + counts[NO_STATE]);
+    return counts[PASSED] == CHECKS && !others->faulty;
+}
+
+/* Judges sheets as one group; gives whether every check passed. */
+static bool run_group(const char *title, const char *whose, const char *const *paths, int count) {
+    tally tallies[TALLIES] = {0};
+    for (int i = 0; i < count; i++) {
+        const asked_sheet *sheet = ask_sheet(paths[i]);
+        if (!sheet)
+            return false;
+        judge_sheet(sheet, tallies);
+    }
+    printf("%s\n", title);
+    return print_checks(tallies, whose);
+}
+
+static bool run_samples(const char *folder) {
+    static char paths[SAMPLE_COUNT][4096];
+    const char *list[SAMPLE_COUNT];
+    for (int i = 0; i < SAMPLE_COUNT; i++) {
+        snprintf(paths[i], sizeof paths[i], "%s/%s.eas", folder, samples[i]);
+        list[i] = paths[i];
+    }
+    return run_group("Shipped samples", "the samples", list, SAMPLE_COUNT);
 }
 
 int main(int argc, char **argv) {
-    static const char *const samples[] = {"sample", "slash-and-space", "digits-only"};
-    int failures = 0;
-    for (int i = 1; i < argc; i++)
-        failures += run_sheet(argv[i]);
-    for (size_t i = 0; i < sizeof samples / sizeof *samples; i++) {
-        char path[4096];
-        snprintf(path, sizeof path, "%s/%s.eas", SAMPLES, samples[i]);
-        failures += run_sheet(path);
+    const char *folder = SAMPLES;
+    const tool_option options[] = {{'s', "samples", "FOLDER", "where the shipped samples are", &folder}, {0}};
+    const tool checklist = {"[SHEET]...", help, options};
+    int first = read_options(&checklist, argc, argv);
+    bool passed = true;
+    printf("Each state is asked for by search, as a plot mark, as a listing line and in a run list.\n\n");
+    for (int i = first; i < argc; i++) {
+        char title[4096];
+        snprintf(title, sizeof title, "Given sheet %s", argv[i]);
+        const char *path = argv[i];
+        passed = run_group(title, "this sheet", &path, 1) && passed;
     }
-    for (int i = 0; i < CHECKS; i++)
-        if (checks[i].applied == 0)
-            failures++, printf("%s applied to no state\n", checks[i].name);
-    printf("checklist: %d checks, %d failures\n", CHECKS, failures);
-    return failures != 0;
+    if (first == argc)
+        printf("No sheet was given: this is about the installed calculator alone.\n\n");
+    passed = run_samples(folder) && passed;
+    return passed ? DONE : REFUSED;
 }

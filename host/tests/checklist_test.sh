@@ -1,0 +1,149 @@
+#!/bin/sh
+# checklist_test.sh BUILD: the checklist on the samples and on sheets made here, and with one fault at a time put in
+# front of the library (tests/faults.c).
+cd "$(dirname "$0")/.." || exit 1
+. tests/check.sh
+build=$1
+for program in checklist faults sheet_tool; do
+    test -x "$build/$program" || { skip "$program was not built"; finish checklist; }
+done
+
+# sheet FILE LINE...: packs a sheet of these lines with raw names.
+sheet() {
+    file=$1
+    shift
+    printf '%s\n' "$@" > "$work/states.csv"
+    "$build/sheet_tool" pack -o "$file" "$work/states.csv"
+}
+
+# status WANTED COMMAND...: the command must end with this status; its output is kept.
+status() {
+    wanted=$1
+    shift
+    "$@" > "$work/output" 2> "$work/errors"
+    got=$?
+    cat "$work/output" "$work/errors"
+    test $got -eq "$wanted"
+}
+
+# has PATTERN...: each must stand in the output.
+has() {
+    for pattern in "$@"; do
+        grep -q -- "$pattern" "$work/output" || { echo "missing: $pattern"; return 1; }
+    done
+}
+
+# group TITLE: the output's part about one group of sheets.
+group() {
+    sed -n "/^$1/,/^\$/p" "$work/output"
+}
+
+# verdict TITLE CHECK WORDS: what a group says of a check, by its number, or of "Every other state".
+verdict() {
+    group "$1" | grep -q "^ *$2.*  $3" || { echo "not '$3' for $2 of $1"; return 1; }
+}
+
+all_pass() {
+    for check in 1 2 3 4 5; do
+        verdict "$1" $check PASSED || return 1
+    done
+}
+
+# fails_only TITLE CHECK: this check failed in the group, and nothing else did.
+fails_only() {
+    verdict "$1" "$2" FAILED && test "$(group "$1" | grep -c "  FAILED")" -eq 1
+}
+
+packs_to_stored_sheet() {
+    "$build/sheet_tool" pack "samples/$1.csv" | cmp - "samples/$1.eas"
+}
+
+# ---- the library as it is
+
+passes_samples() {
+    status 0 "$build/$1" && all_pass "Shipped samples" && has "^No sheet was given"
+}
+
+# What a sheet lacks is told and is no pass for it, whatever the samples have.
+tells_what_is_missing() {
+    status 1 "$build/checklist" samples/sample.eas && all_pass "Shipped samples" &&
+        verdict "Given sheet" 1 PASSED && verdict "Given sheet" 2 PASSED && verdict "Given sheet" 5 INCOMPLETE &&
+        verdict "Given sheet" 3 "NO STATE TO LOOK AT, no pass for this sheet" &&
+        verdict "Given sheet" 4 "NO STATE TO LOOK AT, no pass for this sheet" &&
+        has "- a hot state on the lower density edge" "2 passed, 0 failed, 3 lack a state"
+}
+
+# The states that the checklist names as examples are what a sheet needs.
+passes_complete_sheet() {
+    sheet "$work/names.eas" name,pressure_Pa,density_kg_m3 'nose/cap 1,101330,1.292' 42,101330,1.292 plain,50665,1.292
+    status 1 "$build/checklist" "$work/names.eas"
+    group "Given sheet" | sed -n 's|.*(such as \([0-9.]*\) Pa, \([0-9.]*\) kg/m³)|\1,\2|p' > "$work/examples"
+    test "$(wc -l < "$work/examples")" -eq 8 || return 1
+    awk '{ print "state-" NR "," $0 }' "$work/examples" >> "$work/states.csv"
+    "$build/sheet_tool" pack -o "$work/complete.eas" "$work/states.csv" &&
+        status 0 "$build/checklist" "$work/complete.eas" && all_pass "Given sheet" && all_pass "Shipped samples" &&
+        verdict "Given sheet" "Every other state" "PASSED at 1 state, such as plain"
+}
+
+# Names that are the numbers of their rows cannot tell a name from a row.
+needs_names_unlike_rows() {
+    sheet "$work/rows.eas" name,pressure_Pa,density_kg_m3 1,101330,1.292 2,202660,1.292 &&
+        status 1 "$build/checklist" "$work/rows.eas" && verdict "Given sheet" 2 "NO STATE TO LOOK AT"
+}
+
+# calls_out RAW SPELLED SPELLED_AGAIN: the raw name was never decoded; the run list has it spelled.
+calls_out() {
+    sheet "$work/encoded.eas" name,pressure_Pa,density_kg_m3 "$1,101330,1.292" other,202660,1.292 &&
+        status 1 "$build/checklist" "$work/encoded.eas" && fails_only "Given sheet" 1 && all_pass "Shipped samples" &&
+        has "1 name was encoded on export and never decoded, first $1\$" "^ *$2 finds no state" "^ *$2 ! 9\$" "Only $3 "
+}
+
+# Beside the name that it would be decoded to, a name with a percent form is a name like any other.
+takes_percent_forms() {
+    sheet "$work/both.eas" name,pressure_Pa,density_kg_m3 '%41,101330,1.292' A,202660,1.292 &&
+        status 1 "$build/checklist" "$work/both.eas" && verdict "Given sheet" 1 PASSED
+}
+
+# ---- faults
+
+# finds FAULT [ENTRY]: the fault's own check fails, and no other, on the samples and on a given sheet.
+finds() {
+    status 1 env FAULT="$1" ENTRY="$2" "$build/faults" "$work/complete.eas" && fails_only "Shipped samples" "$1" &&
+        fails_only "Given sheet" "$1"
+}
+
+# A wrong state that no check looks at is told too.
+finds_other_state() {
+    status 1 env FAULT=6 "$build/faults" "$work/complete.eas" && fails_only "Given sheet" "Every other state"
+}
+
+# ---- use
+
+# refuses FILE REASON
+refuses() {
+    status 1 "$build/checklist" "$1" && grep -q "^checklist: $1: $2" "$work/errors" && all_pass "Shipped samples"
+}
+
+expect "the edges and transitions pack to the stored sheet" packs_to_stored_sheet edges-and-transitions
+expect "the samples pass" passes_samples checklist
+expect "the samples pass through the shim without a fault" passes_samples faults
+expect "what a sheet lacks is told" tells_what_is_missing
+expect "a sheet with all examples passes" passes_complete_sheet
+expect "names like their rows cannot tell" needs_names_unlike_rows
+expect "a name that was never decoded is called out" calls_out nose%2Fcap%201 nose%2Fcap%201 nose%252Fcap%25201
+expect "a name that was encoded in part is called out" calls_out nose/cap%201 nose%2Fcap%201 nose%2Fcap%25201
+expect "a percent form may be a name's own" takes_percent_forms
+for fault in 1 2 3 4 5; do
+    for entry in "" search plot line; do
+        expect "fault $fault is found, by ${entry:-every entry}" finds $fault $entry
+    done
+done
+expect "a wrong state that no check looks at is found" finds_other_state
+expect "a missing sheet is told" refuses "$work/none.eas" "No such file"
+printf EAT > "$work/wrong.eas"
+expect "a file that is no sheet is told" refuses "$work/wrong.eas" "refusal 2: "
+expect "missing samples are told" status 1 "$build/checklist" --samples="$work"
+expect "--help" status 0 "$build/checklist" --help
+expect "--version" status 0 "$build/checklist" --version
+expect "an unknown option is misuse" status 2 "$build/checklist" --nothing
+finish checklist

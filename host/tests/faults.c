@@ -1,0 +1,124 @@
+/* Linked in front of the library by the linker's --wrap, this gives the answers of a wrong calculator. In the
+ * environment FAULT is the fault, 1 to 5, which the check of that number in the checklist must find, and ENTRY the one
+ * entry that has it: search, plot or line; without ENTRY, or with an empty one, all have it.
+ *
+ *   1  the search gives 9 for every name with a percent form
+ *   2  a name of digits is taken as the number of a row
+ *   3  the lower band's polynomials are used up to 0.01 above each density edge
+ *   4  the weight's sign is lost in the temperature alone, while the fit and its weight look right
+ *   5  refusals 12 and 13 are replaced by 5,000 K
+ *   6  a perfect gas is a microkelvin too hot, for the states that no check looks at
+ */
+#include <ctype.h>
+#include <math.h>
+#include <stdlib.h>
+#include <string.h>
+
+#include "reference/answer.h"
+#include "reference/line.h"
+#include "reference/sheet.h"
+
+eas_answer __real_eas_search(const uint8_t *sheet, size_t n, const uint8_t *spelled, size_t m);
+eas_mark __real_eas_plot(const uint8_t *sheet, size_t n, const uint8_t *spelled, size_t m);
+eas_text __real_eas_line(const uint8_t *sheet, size_t n, const uint8_t *spelled, size_t m, uint8_t *out, size_t room);
+eas_answer __wrap_eas_search(const uint8_t *sheet, size_t n, const uint8_t *spelled, size_t m);
+eas_mark __wrap_eas_plot(const uint8_t *sheet, size_t n, const uint8_t *spelled, size_t m);
+eas_text __wrap_eas_line(const uint8_t *sheet, size_t n, const uint8_t *spelled, size_t m, uint8_t *out, size_t room);
+
+static const int64_t ONE = 10000000000;
+
+static int fault(void) {
+    const char *number = getenv("FAULT");
+    return number ? atoi(number) : 0;
+}
+
+static bool has_fault(const char *entry) {
+    const char *only = getenv("ENTRY");
+    return !only || !*only || !strcmp(only, entry);
+}
+
+/* The answer of the row that the digits number, from 1; of the name where there is no such row. */
+static eas_answer row_answer(const uint8_t *sheet, size_t n, const uint8_t *digits, size_t m, eas_answer own) {
+    static parsed_sheet parsed;
+    uint64_t row = 0;
+    for (size_t i = 0; i < m; i++) {
+        if (!isdigit(digits[i]) || row > SHEET_MAX_RECORDS)
+            return own;
+        row = 10 * row + (uint64_t)(digits[i] - '0');
+    }
+    sheet_parse(&parsed, sheet, n);
+    if (row == 0 || row > parsed.count)
+        return own;
+    const eas_record *record = &parsed.records[row - 1];
+    return eas_evaluate((uint8_t)record->kind, record->first, record->second);
+}
+
+static int64_t weight_at(const temperature_piece *piece, int64_t y, int64_t z) {
+    long double q = (long double)exponent(piece->exponent, y, z) / (long double)ONE;
+    return piece->weighed ? llrintl((long double)ONE / (1.0L + expl(q))) : 0;
+}
+
+static int64_t microkelvin(int64_t fit) {
+    return llrintl((long double)T0 * powl(10, (long double)fit / (long double)ONE));
+}
+
+static void use_lower_band(eas_answer *a) {
+    static const int64_t edges[] = {-4500000, -500000};
+    for (int i = 0; i < 2; i++) {
+        if (a->y <= edges[i] || a->y > edges[i] + 10000)
+            continue;
+        const temperature_piece *piece = piece_at(edges[i], a->z);
+        a->low.weight = weight_at(piece, a->y, a->z);
+        a->low.fit = (int64_t)fitted(piece, a->y, a->z, a->low.weight);
+        a->value = microkelvin(a->low.fit);
+    }
+}
+
+/* Below 0 the exponent's weight is 1 less that of its size. */
+static void lose_sign(eas_answer *a) {
+    const temperature_piece *piece = piece_at(a->y, a->z);
+    if (piece->weighed && exponent(piece->exponent, a->y, a->z) < 0)
+        a->value = microkelvin((int64_t)fitted(piece, a->y, a->z, ONE - a->low.weight));
+}
+
+static void show_anyway(eas_answer *a) {
+    a->number = 0;
+    a->carries |= EAS_CARRIES_VALUE;
+    a->value = INT64_C(5000000000);
+}
+
+static eas_answer faulty_answer(const uint8_t *sheet, size_t n, const uint8_t *spelled, size_t m) {
+    eas_answer a = __real_eas_search(sheet, n, spelled, m);
+    bool is_fit = a.letter == 'T' && !a.number && a.carries & EAS_CARRIES_LOW;
+    if (fault() == 1 && memchr(spelled, '%', m))
+        a = (eas_answer){.number = 9};
+    if (fault() == 2)
+        a = row_answer(sheet, n, spelled, m, a);
+    if (fault() == 3 && is_fit)
+        use_lower_band(&a);
+    if (fault() == 4 && is_fit)
+        lose_sign(&a);
+    if (fault() == 5 && (a.number == 12 || a.number == 13))
+        show_anyway(&a);
+    if (fault() == 6 && a.letter == 'T' && !a.number && !is_fit)
+        a.value++;
+    return a;
+}
+
+eas_answer __wrap_eas_search(const uint8_t *sheet, size_t n, const uint8_t *spelled, size_t m) {
+    return has_fault("search") ? faulty_answer(sheet, n, spelled, m) : __real_eas_search(sheet, n, spelled, m);
+}
+
+eas_mark __wrap_eas_plot(const uint8_t *sheet, size_t n, const uint8_t *spelled, size_t m) {
+    eas_answer a = faulty_answer(sheet, n, spelled, m);
+    return has_fault("plot") ? mark_of(&a) : __real_eas_plot(sheet, n, spelled, m);
+}
+
+eas_text __wrap_eas_line(const uint8_t *sheet, size_t n, const uint8_t *spelled, size_t m, uint8_t *out, size_t room) {
+    eas_answer a = faulty_answer(sheet, n, spelled, m);
+    listing_line line = line_of(spelled, m, &a);
+    if (!has_fault("line") || line.length > room)
+        return __real_eas_line(sheet, n, spelled, m, out, room);
+    memcpy(out, line.bytes, line.length);
+    return (eas_text){0, line.length};
+}

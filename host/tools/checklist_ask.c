@@ -1,0 +1,203 @@
+#include "checklist_ask.h"
+
+#include <ctype.h>
+#include <stdlib.h>
+#include <string.h>
+
+#include "options.h"
+#include "reference/answer.h"
+
+enum { LIST_MOST = 65536 };
+
+static void *checked(void *memory) {
+    if (!memory)
+        exit(refuse("out of memory"));
+    return memory;
+}
+
+bool has_signs(const named_state *s) {
+    return s->spelled.length != s->record.length;
+}
+
+bool has_digits_only(const asked_sheet *sheet, const named_state *s) {
+    for (size_t i = 0; i < s->record.length; i++)
+        if (!isdigit(sheet->bytes[s->record.start + i]))
+            return false;
+    return true;
+}
+
+uint64_t number_in_name(const asked_sheet *sheet, const named_state *s) {
+    uint64_t number = 0;
+    for (size_t i = 0; i < s->record.length; i++) {
+        if (number > UINT64_MAX / 10 - 1)
+            return UINT64_MAX;
+        number = 10 * number + (uint64_t)(sheet->bytes[s->record.start + i] - '0');
+    }
+    return number;
+}
+
+/* The run list as a whole: the text that the listing program prints for these names, one a line. */
+static eas_text run_list(const uint8_t *sheet, size_t n, const uint8_t *names, size_t m, uint8_t *out, size_t room) {
+    eas_text all = {0, 0};
+    while (m > 0) {
+        const uint8_t *end = memchr(names, '\n', m);
+        size_t length = end ? (size_t)(end - names) : m, past = end ? length + 1 : m;
+        eas_text line = eas_line(sheet, n, names, length, out + all.length, room - all.length);
+        if (line.number)
+            return line;
+        all.length += line.length;
+        names += past;
+        m -= past;
+    }
+    return all;
+}
+
+static asked_name *add_name(asked_sheet *sheet, asked_as as, size_t state, const uint8_t *spelled, size_t length) {
+    if (sheet->count == sheet->room) {
+        sheet->room = 2 * sheet->room + 64;
+        sheet->names = checked(realloc(sheet->names, sheet->room * sizeof *sheet->names));
+    }
+    asked_name *name = &sheet->names[sheet->count++];
+    *name = (asked_name){.as = as, .state = state, .length = length};
+    memcpy(name->spelled, spelled, length);
+    name->absent = sheet_find(&sheet->parsed, sheet->bytes, spelled, length).number == 9;
+    return name;
+}
+
+static void add_lower_case(asked_sheet *sheet, size_t state) {
+    written_name s = sheet->states[state].spelled;
+    for (size_t i = 0; i + 2 < s.length; i++) {
+        if (s.bytes[i] != '%')
+            continue;
+        s.bytes[i + 1] = (uint8_t)tolower(s.bytes[i + 1]);
+        s.bytes[i + 2] = (uint8_t)tolower(s.bytes[i + 2]);
+    }
+    if (memcmp(s.bytes, sheet->states[state].spelled.bytes, s.length))
+        add_name(sheet, LOWER_CASE, state, s.bytes, s.length);
+}
+
+/* A name with its own percent forms decoded and every other byte as it is; returns the length. */
+static size_t decode(const uint8_t *name, size_t n, uint8_t out[NAME_MOST]) {
+    size_t length = 0;
+    for (size_t i = 0; i < n; i++) {
+        read_name form = name_read(name + i, n - i < 3 ? n - i : 3);
+        bool is_form = name[i] == '%' && form.number == 0;
+        out[length++] = is_form ? form.bytes[0] : name[i];
+        i += is_form ? 2 : 0;
+    }
+    return length;
+}
+
+static void add_decoded(asked_sheet *sheet, size_t state) {
+    const eas_record *record = &sheet->states[state].record;
+    uint8_t name[NAME_MOST];
+    size_t length = decode(sheet->bytes + record->start, record->length, name);
+    written_name s = name_write(name, length);
+    if (length != record->length && sheet_find(&sheet->parsed, sheet->bytes, s.bytes, s.length).number == 9)
+        add_name(sheet, DECODED, state, s.bytes, s.length);
+}
+
+/* Rows are counted from 0 or from 1. */
+static void add_row_numbers(asked_sheet *sheet) {
+    for (size_t row = 0; row <= sheet->parsed.count; row++) {
+        char number[24];
+        size_t length = (size_t)snprintf(number, sizeof number, "%zu", row);
+        if (sheet_find(&sheet->parsed, sheet->bytes, (uint8_t *)number, length).number == 9)
+            add_name(sheet, ROW_NUMBER, 0, (uint8_t *)number, length);
+    }
+}
+
+static void add_names(asked_sheet *sheet) {
+    for (size_t i = 0; i < sheet->parsed.count; i++) {
+        named_state *s = &sheet->states[i];
+        s->record = sheet->parsed.records[i];
+        s->spelled = name_write(sheet->bytes + s->record.start, s->record.length);
+        s->right = right_of(&s->record);
+        add_name(sheet, AS_WRITTEN, i, s->spelled.bytes, s->spelled.length);
+    }
+    for (size_t i = 0; i < sheet->parsed.count; i++) {
+        add_lower_case(sheet, i);
+        add_decoded(sheet, i);
+    }
+    add_row_numbers(sheet);
+}
+
+static void ask_alone(asked_sheet *sheet, asked_name *name) {
+    name->answer = eas_search(sheet->bytes, sheet->n, name->spelled, name->length);
+    name->mark = eas_plot(sheet->bytes, sheet->n, name->spelled, name->length);
+    eas_text text =
+        eas_line(sheet->bytes, sheet->n, name->spelled, name->length, (uint8_t *)name->line.bytes, LINE_MOST);
+    name->line.length = text.number ? 0 : text.length;
+}
+
+/* Hands each name its line of a run list's text; the last one also what is left over. */
+static void share_lines(asked_name *names, size_t count, const char *text, size_t length) {
+    for (size_t i = 0; i < count; i++) {
+        const char *end = i + 1 < count ? memchr(text, '\n', length) : NULL;
+        size_t used = end ? (size_t)(end - text) + 1 : length;
+        names[i].listed.length = used < LINE_MOST ? used : LINE_MOST;
+        memcpy(names[i].listed.bytes, text, names[i].listed.length);
+        text += used;
+        length -= used;
+    }
+}
+
+/* A run list from the name at `first` on, as long as one may be; returns where the next one starts. */
+static size_t ask_list(asked_sheet *sheet, size_t first) {
+    uint8_t *list = checked(malloc(LIST_MOST));
+    size_t m = 0, end = first;
+    for (; end < sheet->count && m + sheet->names[end].length + 1 <= LIST_MOST; end++) {
+        memcpy(list + m, sheet->names[end].spelled, sheet->names[end].length);
+        m += sheet->names[end].length;
+        list[m++] = '\n';
+    }
+    size_t room = (end - first) * LINE_MOST;
+    char *out = checked(malloc(room));
+    eas_text text = run_list(sheet->bytes, sheet->n, list, m, (uint8_t *)out, room);
+    share_lines(sheet->names + first, end - first, out, text.number ? 0 : text.length);
+    free(out);
+    free(list);
+    return end;
+}
+
+static bool is_allowed(const eas_record *record, const eas_answer *answer) {
+    return judge_answer((uint8_t)record->kind, record->first, record->second, answer) == NULL;
+}
+
+/* Where the search's answer is wrong, that for the state's values may be right. */
+static void find_truths(asked_sheet *sheet) {
+    for (size_t i = 0; i < sheet->parsed.count; i++) {
+        named_state *s = &sheet->states[i];
+        s->truth = sheet->names[i].answer;
+        if (!is_allowed(&s->record, &s->truth))
+            s->truth = eas_evaluate((uint8_t)s->record.kind, s->record.first, s->record.second);
+        s->allowed = is_allowed(&s->record, &s->truth);
+    }
+}
+
+static int is_refused(const asked_sheet *sheet) {
+    uint32_t number = eas_check(sheet->bytes, sheet->n), due = sheet->parsed.number;
+    if (number != due)
+        refuse("%s: the library says \"%s\", right is \"%s\"", sheet->path, eas_reason(number), eas_reason(due));
+    else if (number)
+        refuse("%s: refusal %u: %s", sheet->path, number, eas_reason(number));
+    return number || due;
+}
+
+asked_sheet *ask_sheet(const char *path) {
+    asked_sheet *sheet = checked(calloc(1, sizeof *sheet));
+    sheet->path = path;
+    if (load_bytes(path, sheet->bytes, &sheet->n))
+        return NULL;
+    sheet_parse(&sheet->parsed, sheet->bytes, sheet->n);
+    if (is_refused(sheet))
+        return NULL;
+    sheet->states = checked(calloc(sheet->parsed.count + 1, sizeof *sheet->states));
+    add_names(sheet);
+    for (size_t i = 0; i < sheet->count; i++)
+        ask_alone(sheet, &sheet->names[i]);
+    for (size_t i = 0; i < sheet->count;)
+        i = ask_list(sheet, i);
+    find_truths(sheet);
+    return sheet;
+}

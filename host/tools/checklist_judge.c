@@ -1,0 +1,207 @@
+#include "checklist_judge.h"
+
+#include <inttypes.h>
+#include <math.h>
+#include <stdlib.h>
+#include <string.h>
+
+#include "kinds.h"
+#include "reference/answer.h"
+
+/* How far above an edge a state is beside it, in millionths. */
+enum { BESIDE_EDGE = 10000 };
+
+#define BIT(number) (1u << (number))
+
+const unsigned check_places[TALLIES] = {
+    [SIGNS] = BIT(A_SIGN),
+    [DIGITS] = BIT(A_NUMBER),
+    [EDGES] = BIT(ON_LOWER_EDGE) | BIT(ABOVE_LOWER_EDGE) | BIT(ON_UPPER_EDGE) | BIT(ABOVE_UPPER_EDGE),
+    [TRANSITION] = BIT(BEFORE_MIDDLE) | BIT(BEHIND_MIDDLE),
+    [RANGE] = BIT(OUT_OF_REACH) | BIT(TOO_HOT),
+};
+
+double in_units(const eas_record *record, int64_t value) {
+    return (double)value / pow(10, kind_of(record->kind)->wanted->decimals);
+}
+
+/* ---- what is shown */
+
+static shown read_line(const listing_line *line) {
+    shown s = {.has_z = true};
+    char text[LINE_MOST + 1], letter;
+    memcpy(text, line->bytes, line->length);
+    text[line->length] = 0;
+    s.readable = sscanf(text, "%*s ! %" SCNu32, &s.number) == 1 ||
+                 sscanf(text, "%*s %c %" SCNd64 " %" SCNd64 " %" SCNd64, &letter, &s.y, &s.z, &s.value) == 4;
+    return s;
+}
+
+static shown read_mark(const eas_mark *mark) {
+    const double most = 9007199254740992.0;
+    shown s = {.number = mark->blank};
+    s.readable = mark->blank || (fabs(mark->point.across) < most && fabs(mark->point.up) < most);
+    if (s.readable && !mark->blank) {
+        s.y = (int64_t)mark->point.across - 7000000;
+        s.value = (int64_t)mark->point.up;
+    }
+    return s;
+}
+
+shown shown_by(const asked_name *name, way w) {
+    const eas_answer *a = &name->answer;
+    if (w == BY_SEARCH)
+        return (shown){true, true, a->number, a->y, a->z, a->value};
+    return w == BY_PLOT ? read_mark(&name->mark) : read_line(w == BY_LINE ? &name->line : &name->listed);
+}
+
+/* ---- whether it is right */
+
+static bool is_mark(const eas_mark *mark, const eas_answer *truth) {
+    eas_mark due = mark_of(truth);
+    return mark->blank == due.blank &&
+           (mark->blank || (mark->point.across == due.point.across && mark->point.up == due.point.up));
+}
+
+static bool is_line(const asked_name *name, const listing_line *line, const eas_answer *truth) {
+    listing_line due = line_of(name->spelled, name->length, truth);
+    return line->length == due.length && !memcmp(line->bytes, due.bytes, due.length);
+}
+
+static bool is_right(const asked_name *name, const named_state *s, way w) {
+    const eas_answer nobody = {.number = 9}, *truth = name->absent ? &nobody : &s->truth;
+    if (!name->absent && w == BY_SEARCH)
+        return !judge_answer((uint8_t)s->record.kind, s->record.first, s->record.second, &name->answer);
+    if (!name->absent && !s->allowed)
+        return false;
+    if (w == BY_SEARCH)
+        return !answers_differ(truth, &name->answer);
+    return w == BY_PLOT ? is_mark(&name->mark, truth)
+                        : is_line(name, w == BY_LINE ? &name->line : &name->listed, truth);
+}
+
+/* ---- what is wrong */
+
+/* A refusal is another state's only where the name is the number of that state's row. */
+size_t state_shown(const asked_sheet *sheet, const asked_name *name, const shown *s) {
+    const named_state *own = &sheet->states[name->state];
+    uint64_t row = !name->absent && has_digits_only(sheet, own) ? number_in_name(sheet, own) : UINT64_MAX;
+    for (size_t i = 0; s->readable && i < sheet->parsed.count; i++) {
+        const eas_answer *a = &sheet->states[i].truth;
+        bool is_own = !name->absent && i == name->state, is_row = i == row || i + 1 == row;
+        bool is_value = !s->number && s->y == a->y && s->value == a->value && (!s->has_z || s->z == a->z);
+        if (!is_own && s->number == a->number && (is_value || (s->number && is_row)))
+            return i;
+    }
+    return SIZE_MAX;
+}
+
+static bool is_wrong_value(double value, double wrong, const right_state *right) {
+    return right->fitted && same_value(value, wrong) && !same_value(wrong, right->value);
+}
+
+static cause cause_of(const asked_sheet *sheet, const asked_name *name, way w) {
+    const named_state *state = &sheet->states[name->state];
+    const right_state *right = &state->right;
+    if (is_right(name, state, w))
+        return RIGHT;
+    if (name->absent)
+        return FOUND_ABSENT;
+    shown s = shown_by(name, w);
+    if (!s.readable || (s.number >= 7 && s.number <= 9))
+        return NOT_FOUND;
+    if (state_shown(sheet, name, &s) != SIZE_MAX)
+        return ANOTHERS;
+    if (s.number || right->number)
+        return s.number ? OTHERWISE : UNDUE_VALUE;
+    double value = in_units(&state->record, s.value);
+    if (is_wrong_value(value, right->neighbour, right))
+        return NEIGHBOURS;
+    return is_wrong_value(value, right->sign_lost, right) ? SIGN_LOST : OTHERWISE;
+}
+
+/* ---- which check it is for */
+
+static unsigned checks_of(const asked_sheet *sheet, const named_state *s) {
+    const right_state *right = &s->right;
+    return (has_signs(s) ? BIT(SIGNS) : 0) | (has_digits_only(sheet, s) ? BIT(DIGITS) : 0) |
+           (right->edge ? BIT(EDGES) : 0) | (!right->number && right->blended ? BIT(TRANSITION) : 0) |
+           (right->number ? BIT(RANGE) : 0);
+}
+
+/* A name that is also the number of its row cannot tell. */
+static unsigned places_by_name(const asked_sheet *sheet, const named_state *s) {
+    uint64_t row = (uint64_t)(s - sheet->states), number;
+    if (!has_digits_only(sheet, s))
+        return has_signs(s) ? BIT(A_SIGN) : 0;
+    number = number_in_name(sheet, s);
+    return number != row && number != row + 1 ? BIT(A_NUMBER) : 0;
+}
+
+/* A state where the wrong curve has the right value cannot tell. */
+static unsigned places_by_value(const right_state *right) {
+    unsigned places = 0;
+    int above = right->above == 0 ? 0 : right->above > 1 && right->above <= BESIDE_EDGE ? 1 : -1;
+    if (right->number)
+        return right->number == 12 ? BIT(OUT_OF_REACH) : right->number == 13 ? BIT(TOO_HOT) : 0;
+    if (right->fitted && right->edge && above >= 0 && !same_value(right->neighbour, right->value))
+        places |= BIT((right->edge == LOWER_DENSITY_EDGE ? ON_LOWER_EDGE : ON_UPPER_EDGE) + above);
+    if (right->blended && right->weight >= 0.01 && right->weight <= 0.99 && !same_value(right->sign_lost, right->value))
+        places |= BIT(right->weight < 0.5 ? BEFORE_MIDDLE : BEHIND_MIDDLE);
+    return places;
+}
+
+/* A fault that a check names goes to that check alone, any other to all that look at the state. */
+static unsigned charged_checks(const asked_name *name, unsigned looking, cause c) {
+    unsigned by_name = looking & (BIT(SIGNS) | BIT(DIGITS)), by_value = looking & ~by_name;
+    if (name->absent)
+        return BIT(name->as == ROW_NUMBER ? DIGITS : SIGNS);
+    if (c == NOT_FOUND || c == ANOTHERS)
+        return by_name ? by_name : BIT(OTHERS);
+    if (c == NEIGHBOURS && by_value & BIT(EDGES))
+        return BIT(EDGES);
+    if (c == SIGN_LOST && by_value & BIT(TRANSITION))
+        return BIT(TRANSITION);
+    return by_value ? by_value : BIT(OTHERS);
+}
+
+/* The checks that a name is charged to, with the causes by each way. */
+static unsigned judge_name(const asked_sheet *sheet, const asked_name *name, cause causes[WAYS]) {
+    unsigned charged = 0, looking = name->absent ? 0 : checks_of(sheet, &sheet->states[name->state]);
+    for (way w = 0; w < WAYS; w++) {
+        causes[w] = cause_of(sheet, name, w);
+        charged |= causes[w] == RIGHT ? 0 : charged_checks(name, looking, causes[w]);
+    }
+    return charged;
+}
+
+static void look_at(const asked_sheet *sheet, const named_state *s, tally tallies[TALLIES]) {
+    unsigned places = places_by_name(sheet, s) | places_by_value(&s->right);
+    for (int c = 0; c < TALLIES; c++) {
+        tally *t = &tallies[c];
+        bool tells = c == OTHERS ? !checks_of(sheet, s) : places & check_places[c];
+        t->places |= places & check_places[c];
+        if (tells && t->telling++ == 0)
+            t->example = s;
+    }
+}
+
+static void charge(const fault *f, unsigned charged, tally tallies[TALLIES]) {
+    for (int c = 0; c < TALLIES; c++)
+        if (charged & BIT(c) && tallies[c].faulty++ == 0)
+            tallies[c].first = *f;
+}
+
+void judge_sheet(const asked_sheet *sheet, tally tallies[TALLIES]) {
+    for (size_t i = 0; i < sheet->parsed.count; i++)
+        look_at(sheet, &sheet->states[i], tallies);
+    for (size_t i = 0; i < sheet->count; i++) {
+        fault f = {.sheet = sheet, .name = &sheet->names[i]};
+        unsigned charged = judge_name(sheet, f.name, f.causes);
+        charge(&f, charged, tallies);
+        if (f.name->as == DECODED && !charged && tallies[SIGNS].encoded++ == 0) {
+            tallies[SIGNS].encoded_in = sheet;
+            tallies[SIGNS].encoded_name = f.name;
+        }
+    }
+}

@@ -1,0 +1,74 @@
+/* The five checks: which states each looks at, and which faults it is charged with. */
+#ifndef CHECKLIST_JUDGE_H
+#define CHECKLIST_JUDGE_H
+
+#include "checklist_ask.h"
+
+/* OTHERS: states that no check looks at. */
+enum { SIGNS, DIGITS, EDGES, TRANSITION, RANGE, CHECKS, OTHERS = CHECKS, TALLIES };
+
+/* What a check needs a state for; without one for each of its places it is not passed. */
+enum {
+    A_SIGN,
+    A_NUMBER,
+    ON_LOWER_EDGE,
+    ABOVE_LOWER_EDGE,
+    ON_UPPER_EDGE,
+    ABOVE_UPPER_EDGE,
+    BEFORE_MIDDLE,
+    BEHIND_MIDDLE,
+    OUT_OF_REACH,
+    TOO_HOT,
+    PLACES
+};
+
+/* The places of each check, a bit each. */
+extern const unsigned check_places[TALLIES];
+
+typedef enum {
+    RIGHT,
+    NOT_FOUND,    /* refused as a name that no state has, or missing from the run list */
+    FOUND_ABSENT, /* something is shown for a name that no state has */
+    ANOTHERS,     /* another state's answer */
+    UNDUE_VALUE,  /* a value where a refusal is due */
+    NEIGHBOURS,   /* by the curves of the neighbouring density band */
+    SIGN_LOST,    /* with the sign of the weight's exponent lost */
+    OTHERWISE
+} cause;
+
+/* What a way shows: a refusal, or the logarithm of the density ratio and the value in an answer's units. */
+typedef struct {
+    bool readable, has_z;
+    uint32_t number;
+    int64_t y, z, value;
+} shown;
+
+shown shown_by(const asked_name *name, way w);
+
+/* A name with what is wrong by each way. */
+typedef struct {
+    const asked_sheet *sheet;
+    const asked_name *name;
+    cause causes[WAYS];
+} fault;
+
+typedef struct {
+    unsigned places;               /* of this check, a bit each */
+    unsigned telling;              /* states that have one of them; of OTHERS, states that no check looks at */
+    unsigned faulty, encoded;      /* names at fault; names that are encoded in the sheet */
+    const named_state *example;    /* of `telling` */
+    fault first;                   /* of `faulty` */
+    const asked_sheet *encoded_in; /* the first of `encoded` */
+    const asked_name *encoded_name;
+} tally;
+
+/* Adds a sheet to the tallies. */
+void judge_sheet(const asked_sheet *sheet, tally tallies[TALLIES]);
+
+/* The state other than the name's own whose answer this is; SIZE_MAX where there is none. */
+size_t state_shown(const asked_sheet *sheet, const asked_name *name, const shown *s);
+
+/* A value in kelvin or J/(kg K). */
+double in_units(const eas_record *record, int64_t value);
+
+#endif
