@@ -1,6 +1,6 @@
 /* Linked in front of the library by the linker's --wrap, this gives the answers of a wrong calculator. In the
  * environment FAULT is the fault, 1 to 5, which the check of that number in the checklist must find, and ENTRY the one
- * entry that has it: search, plot or line; without ENTRY, or with an empty one, all have it.
+ * entry that has it: search, plot or line; without ENTRY, or with an empty one, all have it and eas_evaluate too.
  *
  *   1  the search gives 9 for every name with a percent form
  *   2  a name of digits is taken as the number of a row
@@ -19,9 +19,11 @@
 #include "reference/sheet.h"
 
 eas_answer __real_eas_search(const uint8_t *sheet, size_t n, const uint8_t *spelled, size_t m);
+eas_answer __real_eas_evaluate(uint8_t kind, uint64_t first, uint64_t second);
 eas_mark __real_eas_plot(const uint8_t *sheet, size_t n, const uint8_t *spelled, size_t m);
 eas_text __real_eas_line(const uint8_t *sheet, size_t n, const uint8_t *spelled, size_t m, uint8_t *out, size_t room);
 eas_answer __wrap_eas_search(const uint8_t *sheet, size_t n, const uint8_t *spelled, size_t m);
+eas_answer __wrap_eas_evaluate(uint8_t kind, uint64_t first, uint64_t second);
 eas_mark __wrap_eas_plot(const uint8_t *sheet, size_t n, const uint8_t *spelled, size_t m);
 eas_text __wrap_eas_line(const uint8_t *sheet, size_t n, const uint8_t *spelled, size_t m, uint8_t *out, size_t room);
 
@@ -50,7 +52,7 @@ static eas_answer row_answer(const uint8_t *sheet, size_t n, const uint8_t *digi
     if (row == 0 || row > parsed.count)
         return own;
     const eas_record *record = &parsed.records[row - 1];
-    return eas_evaluate((uint8_t)record->kind, record->first, record->second);
+    return __real_eas_evaluate((uint8_t)record->kind, record->first, record->second);
 }
 
 static int64_t weight_at(const temperature_piece *piece, int64_t y, int64_t z) {
@@ -87,13 +89,8 @@ static void show_anyway(eas_answer *a) {
     a->value = INT64_C(5000000000);
 }
 
-static eas_answer faulty_answer(const uint8_t *sheet, size_t n, const uint8_t *spelled, size_t m) {
-    eas_answer a = __real_eas_search(sheet, n, spelled, m);
+static eas_answer faulty_value(eas_answer a) {
     bool is_fit = a.letter == 'T' && !a.number && a.carries & EAS_CARRIES_LOW;
-    if (fault() == 1 && memchr(spelled, '%', m))
-        a = (eas_answer){.number = 9};
-    if (fault() == 2)
-        a = row_answer(sheet, n, spelled, m, a);
     if (fault() == 3 && is_fit)
         use_lower_band(&a);
     if (fault() == 4 && is_fit)
@@ -105,8 +102,22 @@ static eas_answer faulty_answer(const uint8_t *sheet, size_t n, const uint8_t *s
     return a;
 }
 
+static eas_answer faulty_answer(const uint8_t *sheet, size_t n, const uint8_t *spelled, size_t m) {
+    eas_answer a = __real_eas_search(sheet, n, spelled, m);
+    if (fault() == 1 && memchr(spelled, '%', m))
+        return (eas_answer){.number = 9};
+    if (fault() == 2)
+        return row_answer(sheet, n, spelled, m, a);
+    return faulty_value(a);
+}
+
 eas_answer __wrap_eas_search(const uint8_t *sheet, size_t n, const uint8_t *spelled, size_t m) {
     return has_fault("search") ? faulty_answer(sheet, n, spelled, m) : __real_eas_search(sheet, n, spelled, m);
+}
+
+eas_answer __wrap_eas_evaluate(uint8_t kind, uint64_t first, uint64_t second) {
+    eas_answer a = __real_eas_evaluate(kind, first, second);
+    return has_fault("evaluate") ? faulty_value(a) : a;
 }
 
 eas_mark __wrap_eas_plot(const uint8_t *sheet, size_t n, const uint8_t *spelled, size_t m) {

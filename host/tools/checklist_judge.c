@@ -88,9 +88,10 @@ size_t state_shown(const asked_sheet *sheet, const asked_name *name, const shown
     uint64_t row = !name->absent && has_digits_only(sheet, own) ? number_in_name(sheet, own) : UINT64_MAX;
     for (size_t i = 0; s->readable && i < sheet->parsed.count; i++) {
         const eas_answer *a = &sheet->states[i].truth;
-        bool is_own = !name->absent && i == name->state, is_row = i == row || i + 1 == row;
+        bool is_other = sheet->states[i].allowed && (name->absent || i != name->state),
+             is_row = i == row || i + 1 == row;
         bool is_value = !s->number && s->y == a->y && s->value == a->value && (!s->has_z || s->z == a->z);
-        if (!is_own && s->number == a->number && (is_value || (s->number && is_row)))
+        if (is_other && s->number == a->number && (is_value || (s->number && is_row)))
             return i;
     }
     return SIZE_MAX;
