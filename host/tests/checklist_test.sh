@@ -117,6 +117,28 @@ finds_other_state() {
     status 1 env FAULT=6 "$build/faults" "$work/complete.eas" && fails_only "Given sheet" "Every other state"
 }
 
+# ---- the document
+
+# Each wrong program and each theorem that docs/CHECKLIST.md cites stands in crates/.
+cites_what_stands() {
+    grep -o '`[a-z0-9_]*/[a-z0-9_]*`' ../docs/CHECKLIST.md | tr -d '`' | sed 's|/|/must-fail/|; s|$|.edit|' > "$work/edits"
+    grep -o '`[a-z0-9_-]*` in [a-z0-9_]*/[a-z]*/[A-Za-z0-9]*[.][a-z]*' ../docs/CHECKLIST.md | tr -d '`' > "$work/theorems"
+    test -s "$work/edits" && test -s "$work/theorems" || return 1
+    while read -r edit; do
+        test -f "../crates/$edit" || { echo "no $edit"; return 1; }
+    done < "$work/edits"
+    while read -r name _ file; do
+        grep -Eq "^ *pub (fn )?$name( :|\()" "../crates/$file" || { echo "no $name in $file"; return 1; }
+    done < "$work/theorems"
+}
+
+# Each state that the checklist gives as an example stands in the document.
+documents_examples() {
+    while IFS=, read -r pressure density; do
+        grep -q "| $pressure Pa | $density kg/m³ |" ../docs/CHECKLIST.md || { echo "no $pressure Pa"; return 1; }
+    done < "$work/examples"
+}
+
 # ---- use
 
 # refuses FILE REASON
@@ -139,6 +161,8 @@ for fault in 1 2 3 4 5; do
     done
 done
 expect "a wrong state that no check looks at is found" finds_other_state
+expect "what the document cites stands" cites_what_stands
+expect "the document has the examples" documents_examples
 expect "a missing sheet is told" refuses "$work/none.eas" "No such file"
 printf EAT > "$work/wrong.eas"
 expect "a file that is no sheet is told" refuses "$work/wrong.eas" "refusal 2: "
