@@ -88,8 +88,8 @@ size_t state_shown(const asked_sheet *sheet, const asked_name *name, const shown
     uint64_t row = !name->absent && has_digits_only(sheet, own) ? number_in_name(sheet, own) : UINT64_MAX;
     for (size_t i = 0; s->readable && i < sheet->parsed.count; i++) {
         const eas_answer *a = &sheet->states[i].truth;
-        bool is_other = sheet->states[i].allowed && (name->absent || i != name->state),
-             is_row = i == row || i + 1 == row;
+        bool is_other = sheet->states[i].allowed && (name->absent || i != name->state);
+        bool is_row = i == row || i + 1 == row;
         bool is_value = !s->number && s->y == a->y && s->value == a->value && (!s->has_z || s->z == a->z);
         if (is_other && s->number == a->number && (is_value || (s->number && is_row)))
             return i;
@@ -132,10 +132,9 @@ static unsigned checks_of(const asked_sheet *sheet, const named_state *s) {
 
 /* A name that is also the number of its row cannot tell. */
 static unsigned places_by_name(const asked_sheet *sheet, const named_state *s) {
-    uint64_t row = (uint64_t)(s - sheet->states), number;
     if (!has_digits_only(sheet, s))
         return has_signs(s) ? BIT(A_SIGN) : 0;
-    number = number_in_name(sheet, s);
+    uint64_t row = (uint64_t)(s - sheet->states), number = number_in_name(sheet, s);
     return number != row && number != row + 1 ? BIT(A_NUMBER) : 0;
 }
 
