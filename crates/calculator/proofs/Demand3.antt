@@ -22,7 +22,7 @@ use Rattle.calculator.specs.Search.{locate, locateIn, locateName, Answer
 use Rattle.calculator.specs.Demand3.{Answered, Demand3, SearchDemand3}
 
 -- any valid spelling of a record's name finds that record
-locates : (s : List ℕ) (rs : List Record) (r : Record) (spelling : List ℕ)
+pub locates : (s : List ℕ) (rs : List Record) (r : Record) (spelling : List ℕ)
     → sheetOf s ≡ records rs → List·Memᴰ r rs → nameOf spelling ≡ text (nameIn s r) → locate s spelling ≡ Hit r
 unfolding locate
 locates s rs r spelling e m k = ap (locateIn s spelling) e ∙ ap (locateName s rs) k ∙ finds layoutOf s rs r e m .found

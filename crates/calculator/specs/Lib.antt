@@ -1,2 +1,3 @@
 pub mod Search
 pub mod Demand3
+pub mod FoundName

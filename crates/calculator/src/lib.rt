@@ -3,11 +3,11 @@ use air::Answer;
 use octets::Outcome;
 use sheet_search::Lookup;
 ghost use mathlib.Core.Path.{_≡_};
-ghost use Rattle.sheet_search.specs.Find.{handedBack};
 ghost use Rattle.sheet.specs.Index.{Indexed};
 ghost use Rattle.air.specs.Held.{held};
 ghost use Rattle.air.specs.Choices.{chosen};
 ghost use Rattle.calculator.specs.Search.{locate, answerAt, searchBy};
+ghost use Rattle.calculator.specs.FoundName.{foundName};
 
 // The record that a spelling finds in a sheet that is indexed.
 pub fn locate_in(
@@ -76,7 +76,7 @@ pub fn search(sheet: &[u8], spelled: &[u8]) -> Answer
 
 // The name that a search finds, as the part of the sheet that holds it; empty where the search refuses.
 pub fn found_name<'a, 'b>(sheet: &'a [u8], spelled: &'b [u8]) -> &'a [u8]
-    ensures { λ r. ⌜ now r ≡ handedBack (now (sheet .entry)) (locate (now (sheet .entry)) (now (spelled .entry))) ⌝ }
+    ensures { λ r. ⌜ now r ≡ foundName (now (sheet .entry)) (now (spelled .entry)) ⌝ }
 {
     sheet_search::handed_back(sheet, locate(sheet, spelled))
 }

@@ -2,15 +2,16 @@
 use mathlib.Core.Bool.{Bool, true, false, cond}
 use mathlib.Core.List.{List, [], _∷_, List·Memᴰ, List·Memᴰ·head, List·Memᴰ·tail}
 use mathlib.Core.Path.{_≡_, refl, ap}
-use Prim.Native.Nat.{ℕ, _+_, _≤_}
-use lib.ListN.{length}
+use Prim.Native.Nat.{ℕ}
 use Rattle.octets.specs.Bytes.{same}
 use Rattle.sheet_search.specs.Find.{findIn, findBy, findOf, Inside}
 use Rattle.sheet_record.specs.Layout.{layoutOf}
 use Rattle.sheet_record.specs.Front.{nameIn}
 use Rattle.sheet.specs.Sheet.{Sheet, refused, records, sheetOf, numberOf}
+use Rattle.sheet_search.specs.declared.Lookup.{Lookup}
 use Rattle.sheet_search.specs.declared.Lookup.the-variants.{Hit, Miss}
 use Rattle.sheet_record.specs.declared.Record.{Record}
+use Rattle.distinct.proofs.Same.{same-equal}
 use Rattle.sheet_search.proofs.Locate.{finds}
 
 -- a refused sheet's number is the search's
@@ -18,15 +19,20 @@ pub refused-first : (t : Sheet) (s name : List ℕ) (k : ℕ) → k ≡ numberOf
 refused-first (refused n) s name k e z = ap Miss e
 refused-first (records rs) s name k e z = absurd (z e)
 
--- where the names of all records lie in the sheet, that of the one found does
-found-inside : (s name : List ℕ) (rs : List Record) → ((r : Record) → List·Memᴰ r rs → r .start + r .len ≤ length s) → Inside s (findIn s rs name)
+-- what is found among records has the name, and is one of them
+pub data Finding (s : List ℕ) (rs : List Record) (name : List ℕ) : Lookup → Type 0 where
+  hit : {r : Record} → List·Memᴰ r rs → nameIn s r ≡ name → Finding s rs name (Hit r)
+  miss : Finding s rs name (Miss 9)
+
+pub finding : (s : List ℕ) (rs : List Record) (name : List ℕ) → Finding s rs name (findIn s rs name)
 unfolding findIn
-found-inside s name [] h = tt
-found-inside s name (r ∷ rs) h = go (same (nameIn s r) name) (found-inside s name rs (λ q m. h q (List·Memᴰ·tail m)))
+finding s [] name = miss
+finding s (r ∷ rs) name = go (same (nameIn s r) name) refl (findIn s rs name) (finding s rs name)
   where
-    go : (b : Bool) → Inside s (findIn s rs name) → Inside s (cond b (Hit r) (findIn s rs name))
-    go true i = h r (List·Memᴰ·head refl)
-    go false i = i
+    go : (b : Bool) → same (nameIn s r) name ≡ b → (f : Lookup) → Finding s rs name f → Finding s (r ∷ rs) name (cond b (Hit r) f)
+    go true e f v = hit (List·Memᴰ·head refl) (same-equal (nameIn s r) name e)
+    go false e (Hit q) (hit m k) = hit (List·Memᴰ·tail m) k
+    go false e (Miss n) miss = miss
 
 -- what is found lies in the sheet
 pub find-inside : (s name : List ℕ) → Inside s (findOf s name)
@@ -34,4 +40,8 @@ find-inside s name = go (sheetOf s) refl
   where
     go : (t : Sheet) → sheetOf s ≡ t → Inside s (findBy t s name)
     go (refused n) e = tt
-    go (records rs) e = found-inside s name rs (λ r m. finds layoutOf s rs r e m .fit .inside)
+    go (records rs) e = among (findIn s rs name) (finding s rs name)
+      where
+        among : (f : Lookup) → Finding s rs name f → Inside s f
+        among (Hit r) (hit m k) = finds layoutOf s rs r e m .fit .inside
+        among (Miss n) v = tt
