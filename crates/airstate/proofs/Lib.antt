@@ -1,1 +1,2 @@
 pub mod Drawable
+pub mod Allowed

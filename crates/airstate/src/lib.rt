@@ -16,6 +16,7 @@ ghost use Rattle.air.specs.State.{answerBy};
 ghost use Rattle.mark.specs.Mark.{markOf};
 ghost use Rattle.calculator.specs.Search.{locate, searchBy};
 ghost use Rattle.flat.specs.Flat.{flat, flatFound, flatText, flatMark};
+ghost use Rattle.airstate.specs.Allowed.{IsFlatSearch, IsFlatAnswer, IsFlatMark, IsFlatLine, IsFlatListing};
 ghost use Rattle.airstate.specs.Texts.{lineIn, listingIn, readIn};
 
 // The sheet's number: 0, 1 to 6, 16.
@@ -46,6 +47,7 @@ pub extern "C" fn eas_record_at(sheet: &[u8], i: usize) -> CRecord
 #[no_mangle]
 pub extern "C" fn eas_search(sheet: &[u8], spelled: &[u8]) -> CAnswer
     ensures { λ r. ⌜ r ≡ flat (searchBy chosen (now (sheet .entry)) (now (spelled .entry))) ⌝ }
+    ensures { λ r. ⌜ IsFlatSearch (now (sheet .entry)) (now (spelled .entry)) r ⌝ }
 {
     flat::flatten(calculator::search(sheet, spelled))
 }
@@ -54,6 +56,7 @@ pub extern "C" fn eas_search(sheet: &[u8], spelled: &[u8]) -> CAnswer
 #[no_mangle]
 pub extern "C" fn eas_evaluate(kind: u32, first: u64, second: u64) -> CAnswer
     ensures { λ r. ⌜ r ≡ flat (answerBy chosen kind first second) ⌝ }
+    ensures { λ r. ⌜ IsFlatAnswer kind first second r ⌝ }
 {
     if 255 < kind {
         return flat::flatten(Answer::Refused(6));
@@ -65,6 +68,7 @@ pub extern "C" fn eas_evaluate(kind: u32, first: u64, second: u64) -> CAnswer
 #[no_mangle]
 pub extern "C" fn eas_plot(sheet: &[u8], spelled: &[u8]) -> CMark
     ensures { λ r. ⌜ r ≡ flatMark (markOf (searchBy chosen (now (sheet .entry)) (now (spelled .entry)))) ⌝ }
+    ensures { λ r. ⌜ IsFlatMark (now (sheet .entry)) (now (spelled .entry)) r ⌝ }
 {
     flat::flatten_mark(mark::mark_of(calculator::search(sheet, spelled)))
 }
@@ -74,6 +78,7 @@ pub extern "C" fn eas_plot(sheet: &[u8], spelled: &[u8]) -> CMark
 pub extern "C" fn eas_line(sheet: &[u8], spelled: &[u8], out: &mut [u8]) -> CText
     ensures { λ r. ⌜ r ≡ flatText (outcomeOf (lineIn (length (now (out .entry))) (now (sheet .entry)) (now (spelled .entry)))) ⌝ }
     ensures { λ _. ⌜ now (out .exit) ≡ written (lineIn (length (now (out .entry))) (now (sheet .entry)) (now (spelled .entry))) (now (out .entry)) ⌝ }
+    ensures { λ r. ⌜ IsFlatLine (now (sheet .entry)) (now (spelled .entry)) (now (out .entry)) (now (out .exit)) r ⌝ }
 {
     flat::flatten_text(report::line(sheet, spelled, out))
 }
@@ -83,6 +88,7 @@ pub extern "C" fn eas_line(sheet: &[u8], spelled: &[u8], out: &mut [u8]) -> CTex
 pub extern "C" fn eas_list(sheet: &[u8], names: &[u8], out: &mut [u8]) -> CText
     ensures { λ r. ⌜ r ≡ flatText (outcomeOf (listingIn (length (now (out .entry))) (now (sheet .entry)) (now (names .entry)))) ⌝ }
     ensures { λ _. ⌜ now (out .exit) ≡ written (listingIn (length (now (out .entry))) (now (sheet .entry)) (now (names .entry))) (now (out .entry)) ⌝ }
+    ensures { λ r. ⌜ IsFlatListing (now (sheet .entry)) (now (names .entry)) (now (out .entry)) (now (out .exit)) r ⌝ }
 {
     flat::flatten_text(report::listing(sheet, names, out))
 }

@@ -6,7 +6,7 @@ ghost use mathlib.Core.Path.{_≡_};
 ghost use Rattle.sheet.specs.Index.{Indexed};
 ghost use Rattle.air.specs.Held.{held};
 ghost use Rattle.air.specs.Choices.{chosen};
-ghost use Rattle.calculator.specs.Search.{locate, answerAt, searchBy};
+ghost use Rattle.calculator.specs.Search.{locate, answerAt, IsSearch, searchBy};
 ghost use Rattle.calculator.specs.FoundName.{foundName};
 
 // The record that a spelling finds in a sheet that is indexed.
@@ -67,9 +67,10 @@ pub fn answer_in(
     answer_at(locate_in(sheet, starts, heads, next, spelled))
 }
 
-// The answer for a sheet and a spelling of any bytes.
+// The answer for a sheet and a spelling of any bytes: the one that the program's choices make, which is one that is allowed.
 pub fn search(sheet: &[u8], spelled: &[u8]) -> Answer
     ensures { λ r. ⌜ held r ≡ searchBy chosen (now (sheet .entry)) (now (spelled .entry)) ⌝ }
+    ensures { λ r. ⌜ IsSearch (now (sheet .entry)) (now (spelled .entry)) r ⌝ }
 {
     answer_at(locate(sheet, spelled))
 }

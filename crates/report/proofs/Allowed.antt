@@ -34,9 +34,9 @@ use Rattle.line.specs.Line.{line}
 use Rattle.report.specs.Listing.{linesOf, linesBy, listingBy, Lines, done, next, IsListing}
 
 -- an answer that holds h
-record Holder (h : Held) : Type 0 where
-  answer : Answer
-  holds : held answer ≡ h
+pub record Holder (h : Held) : Type 0 where
+  pub answer : Answer
+  pub holds : held answer ≡ h
 
 refusal : (n : ℕ) → Holder (refuses n)
 refusal n = record { answer = a.Refused n; holds = refl }
@@ -71,18 +71,23 @@ module _ (c : Choices) where
   temperature r.Perfect p d l = shown
   temperature (r.Fitted b i) p d l = fit temperatureRule (temperatureStrip (l .y)) l (pointBy c temperatureRule (kelvinBy c) (l .z))
 
-  state : (k : Kind) (v w : ℕ) → Holder (heldBy c (propertyOf k) v w)
+  by-kind : (k : Kind) (v w : ℕ) → Holder (heldBy c (propertyOf k) v w)
   unfolding temperatureBy
-  state Temperature v w = let l = temperatureLogs c v w in in-range 11 (isPressure v) (isDensity w) (temperature (regionOf (l .y) (l .z)) v w l)
-  state Entropy v w = in-range 11 (isEnergy v) (isDensity w) {h = entropyFrom (entropyLogs c v w)} (entropy (entropyLogs c v w))
-  state Unknown v w = refusal 6
+  by-kind Temperature v w = let l = temperatureLogs c v w in in-range 11 (isPressure v) (isDensity w) (temperature (regionOf (l .y) (l .z)) v w l)
+  by-kind Entropy v w = in-range 11 (isEnergy v) (isDensity w) {h = entropyFrom (entropyLogs c v w)} (entropy (entropyLogs c v w))
+  by-kind Unknown v w = refusal 6
+
+  -- an answer to a state
+  pub state : (kind first second : ℕ) → Holder (answerBy c kind first second)
+  unfolding answerBy
+  state kind first second = by-kind (kindOf kind) first second
 
   found : (f : Lookup) → Holder (answerAt c f)
-  unfolding answerBy
   found (Miss n) = refusal n
-  found (Hit x) = state (kindOf (x .kind)) (x .first) (x .second)
+  found (Hit x) = state (x .kind) (x .first) (x .second)
 
-  searched : (sheet spelling : List ℕ) → Holder (searchBy c sheet spelling)
+  -- and to a search
+  pub searched : (sheet spelling : List ℕ) → Holder (searchBy c sheet spelling)
   unfolding searchBy
   searched sheet spelling = found (locate sheet spelling)
 

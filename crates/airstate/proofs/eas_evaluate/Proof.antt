@@ -12,6 +12,7 @@ use Rattle.air.specs.Choices.{chosen}
 use Rattle.air.specs.Held.{refuses}
 use Rattle.air.specs.State.{propertyOf, heldBy, answerBy}
 use Rattle.flat.specs.Flat.{flat}
+use Rattle.airstate.proofs.Allowed.{state-made}
 use borrow.Author.Needs.{needs}
 use Rattle.airstate.proofs.eas_evaluate.Statement.{statement}
 use Rattle.airstate.proofs.eas_evaluate.Tie as tie
@@ -32,7 +33,8 @@ flatten-requires c κs = search needs
 returns : tie.Need-returns
 returns c =
     let s = c .before .before in
-    c .flatten .ensures ∙ ap flat (no-answer (s .args .kind) (s .args .first) (s .args .second) (omega arith))
+    let e = c .flatten .ensures ∙ ap flat (no-answer (s .args .kind) (s .args .first) (s .args .second) (omega arith)) in
+    (e, state-made flat _ _ _ _ e)
 
 cast-evaluate : tie.Need-cast-evaluate
 cast-evaluate c = search needs
@@ -44,7 +46,9 @@ flatten-requires-2 : tie.Need-flatten-requires-2
 flatten-requires-2 c κs = search needs
 
 returns-2 : tie.Need-returns-2
-returns-2 c = c .flatten2 .ensures ∙ ap flat (c .before .evaluate .ensures .0)
+returns-2 c =
+    let e = c .flatten2 .ensures ∙ ap flat (c .before .evaluate .ensures .0) in
+    (e, state-made flat _ _ _ _ e)
 
 pub eas-evaluate-spec : {M : Type 1} → statement M
 eas-evaluate-spec =

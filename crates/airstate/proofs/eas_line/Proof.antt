@@ -1,13 +1,10 @@
 -- `airstate::eas_line` flattens what the line gives; the room is as the line leaves it.
 use mathlib.Core.Path.{_≡_, ap, _∙_}
 use Rattle.flat.specs.Flat.{flatText}
+use Rattle.airstate.proofs.Allowed.{line-made}
 use borrow.Author.Needs.{needs}
 use Rattle.airstate.proofs.eas_line.Statement.{statement}
 use Rattle.airstate.proofs.eas_line.Tie as tie
-use Rattle.airstate.proofs.eas_line.Reads as reads
-use Rattle.airstate.proofs.eas_line.Lts as lts
-use Rattle.flat.proofs.flatten_text.Reads as flatten-text-reads
-use Rattle.name.proofs.spell.Reads as spell-reads
 
 line-requires : tie.Need-line-requires
 line-requires c κs = search needs
@@ -21,7 +18,8 @@ same-length c = search needs
 returns : tie.Need-returns
 returns c =
     let k = c .before .before .before in
-    (c .flatten-text .ensures ∙ ap flatText (k .line .ensures .0), k .line .ensures .1)
+    let e = c .flatten-text .ensures ∙ ap flatText (k .line .ensures .0) in
+    (e, (k .line .ensures .1, line-made _ _ _ _ _ e (k .line .ensures .1)))
 
 pub eas-line-spec : {M : Type 1} → statement M
 eas-line-spec = tie.close (tie.spec line-requires flatten-text-requires same-length returns)

@@ -3,14 +3,10 @@ use mathlib.Core.Path.{_≡_, sym, ap, _∙_, subst}
 use Rattle.mark.specs.Mark.{markOf, CanDraw}
 use Rattle.flat.specs.Flat.{flatMark}
 use Rattle.airstate.proofs.Drawable.{search-shown}
+use Rattle.airstate.proofs.Allowed.{search-made}
 use borrow.Author.Needs.{needs}
 use Rattle.airstate.proofs.eas_plot.Statement.{statement}
 use Rattle.airstate.proofs.eas_plot.Tie as tie
-use Rattle.airstate.proofs.eas_plot.Reads as reads
-use Rattle.airstate.proofs.eas_plot.Lts as lts
-use Rattle.flat.proofs.flatten_mark.Reads as flatten-mark-reads
-use Rattle.calculator.proofs.search.Reads as search-reads
-use Rattle.mark.proofs.mark_of.Reads as mark-of-reads
 
 search-requires : tie.Need-search-requires
 search-requires c κs = search needs
@@ -18,13 +14,15 @@ search-requires c κs = search needs
 mark-of-requires : tie.Need-mark-of-requires
 mark-of-requires c κs =
     let s = c .before .before .before in
-    subst CanDraw (sym (c .search .ensures)) (search-shown (s .args .sheet .now) (s .args .spelled .now))
+    subst CanDraw (sym (c .search .ensures .0)) (search-shown (s .args .sheet .now) (s .args .spelled .now))
 
 flatten-mark-requires : tie.Need-flatten-mark-requires
 flatten-mark-requires c κs = search needs
 
 returns : tie.Need-returns
-returns c = c .flatten-mark .ensures ∙ ap flatMark (c .before .mark-of .ensures ∙ ap markOf (c .before .before .search .ensures))
+returns c =
+    let e = c .flatten-mark .ensures ∙ ap flatMark (c .before .mark-of .ensures ∙ ap markOf (c .before .before .search .ensures .0)) in
+    (e, search-made (λ h. flatMark (markOf h)) _ _ _ e)
 
 pub eas-plot-spec : {M : Type 1} → statement M
 eas-plot-spec = tie.close (tie.spec search-requires mark-of-requires flatten-mark-requires returns)

@@ -28,7 +28,7 @@ returns c =
     let a = c .before .before .before .before in
     let s = a .before .before .before .before .before .args .spelled .now in
     let m = a .before .before .before .before .before .args .sheet .now in
-    let e = a .line-of .ensures .0 ∙ ap (λ (h : Held). lineHeld (line s h)) (a .before .search .ensures) in
+    let e = a .line-of .ensures .0 ∙ ap (λ (h : Held). lineHeld (line s h)) (a .before .search .ensures .0) in
     rw (line-front (line s (searchBy chosen m s)) _ e) at (c .before .before .put-line .ensures)
 
 pub line-spec : {M : Type 1} → statement M
