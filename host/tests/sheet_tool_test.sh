@@ -54,6 +54,7 @@ right "semicolons" 'name;pressure_Pa;density_kg_m3\na;1;1\n' 'a,1,1000000,100000
 right "tabs" 'name\tpressure_Pa\tdensity_kg_m3\na\t1\t1\n' 'a,1,1000000,100000000000\n'
 right "blank lines and empty rows" $si'\na,1,1\n,,\n  \nb,1,1\n' \
     'a,1,1000000,100000000000\nb,1,1000000,100000000000\n'
+right "a quoted nothing" '""\n'$si'""\na,1,1\n' 'a,1,1000000,100000000000\n'
 right "empty fields behind the heading's" $si'a,1,1,,\n' 'a,1,1000000,100000000000\n'
 right "columns in another order" 'density_kg_m3,name,pressure_Pa\n1,a,2\n' 'a,1,2000000,100000000000\n'
 right "headings in capitals" 'Name,PRESSURE_PA,Density_kg_m3\na,2,1\n' 'a,1,2000000,100000000000\n'

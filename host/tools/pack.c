@@ -24,7 +24,7 @@ typedef struct {
     bool has_heading, is_full;
     unsigned long wrong;
     size_t width, column[COLUMNS];
-    uint8_t bytes[SHEET_MOST];
+    uint8_t *bytes;
     size_t n;
     size_t start[RECORDS_MOST];
     unsigned long line[RECORDS_MOST];
@@ -322,25 +322,25 @@ static char *slurp(const char *path, size_t *n) {
     return failed ? NULL : text;
 }
 
-int pack(const char *input, const char *output) {
+int pack_text(const char *name, const char *text, size_t n, uint8_t sheet[SHEET_MOST], size_t *length) {
     static packing p;
-    size_t n;
-    char *text = slurp(input, &n);
-    if (!text)
-        return REFUSED;
-    p.input = input_name(input);
-    p.n = put_head(p.bytes);
-    p.taker = (row_taker){take, &p, true};
-    int failed = read_rows(p.input, text, n, &p.taker);
-    free(text);
-    if (failed || p.wrong)
+    p = (packing){.input = name, .bytes = sheet, .n = put_head(sheet), .taker = {take, &p, true}};
+    if (read_rows(name, text, n, &p.taker) || p.wrong)
         return REFUSED;
     if (!p.has_heading)
-        return refuse("%s: empty: a heading and states are wanted", p.input);
-    if (record_count(p.bytes) == 0)
-        refuse("%s: note: there are no states below the heading", p.input);
-    uint32_t number = eas_check(p.bytes, p.n);
-    if (number)
-        return refuse("%s: refusal %u: %s", p.input, number, eas_reason(number));
-    return write_output(output, p.bytes, p.n);
+        return refuse("%s: empty: a heading and states are wanted", name);
+    if (record_count(sheet) == 0)
+        refuse("%s: note: there are no states below the heading", name);
+    *length = p.n;
+    uint32_t number = eas_check(sheet, p.n);
+    return number ? refuse("%s: refusal %u: %s", name, number, eas_reason(number)) : DONE;
+}
+
+int pack(const char *input, const char *output) {
+    static uint8_t sheet[SHEET_MOST];
+    size_t n, length;
+    char *text = slurp(input, &n);
+    int failed = text ? pack_text(input_name(input), text, n, sheet, &length) : REFUSED;
+    free(text);
+    return failed ? failed : write_output(output, sheet, length);
 }

@@ -42,7 +42,7 @@ static void take_field(void *text, size_t length, void *data) {
 /* The texts get their places when all of them are there, since they move as the room grows. */
 static void take_row(int end, void *data) {
     reading *r = data;
-    const char *at = r->text;
+    const char *at = r->text ? r->text : "";
     (void)end;
     for (size_t i = 0; i < r->current.count; i++) {
         r->current.fields[i].text = at;

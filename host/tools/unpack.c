@@ -108,24 +108,29 @@ static void write_state(FILE *out, const state *s, layout l) {
     fputc('\n', out);
 }
 
+void unpack_to(FILE *out, const uint8_t *sheet, bool si, bool spelled) {
+    layout l = layout_of(sheet, si, spelled);
+    size_t at = HEAD;
+    write_heading(out, l);
+    for (unsigned left = record_count(sheet); left > 0; left--) {
+        state s = next_state(sheet, &at);
+        write_state(out, &s, l);
+    }
+}
+
 int unpack(const char *input, const char *output, bool si, bool spelled) {
     static uint8_t sheet[SHEET_MOST + 1];
-    size_t n, length, at = HEAD;
+    size_t n, length;
     char *text;
     if (load_bytes(input, sheet, &n))
         return REFUSED;
     uint32_t number = eas_check(sheet, n);
     if (number)
         return refuse_sheet(input_name(input), sheet, n, number);
-    layout l = layout_of(sheet, si, spelled);
     FILE *out = open_memstream(&text, &length);
     if (!out)
         return refuse_file(output_name(output));
-    write_heading(out, l);
-    for (unsigned left = record_count(sheet); left > 0; left--) {
-        state s = next_state(sheet, &at);
-        write_state(out, &s, l);
-    }
+    unpack_to(out, sheet, si, spelled);
     if (fclose(out))
         return refuse_file(output_name(output));
     int failed = write_output(output, text, length);
