@@ -166,11 +166,15 @@ uint32_t eas_check(const uint8_t *sheet, size_t n);
 /* Finds a spelled name: its record, or 1 to 9 or 16. */
 eas_record eas_find(const uint8_t *sheet, size_t n, const uint8_t *spelled, size_t m);
 
+/* Record i of a sheet, from 0, in the sheet's order: 1 to 6 or 16, then 9 where there is none. Every call checks the
+ * sheet; the records are i = 0, 1, ... until 9. */
+eas_record eas_record_at(const uint8_t *sheet, size_t n, size_t i);
+
 /* Finds a spelled name and works out its state: 0, or 1 to 13 or 16. */
 eas_answer eas_search(const uint8_t *sheet, size_t n, const uint8_t *spelled, size_t m);
 
-/* Works out a state of a kind: 0, or 6 or 10 to 13. */
-eas_answer eas_evaluate(uint8_t kind, uint64_t first, uint64_t second);
+/* Works out a state of a kind that stands in no sheet: 0, or 6 (every kind over 255 too) or 10 to 13. */
+eas_answer eas_evaluate(uint32_t kind, uint64_t first, uint64_t second);
 
 /* The plot mark of a spelled name: a point, or blank with 1 to 13 or 16. */
 eas_mark eas_plot(const uint8_t *sheet, size_t n, const uint8_t *spelled, size_t m);
@@ -180,11 +184,18 @@ eas_mark eas_plot(const uint8_t *sheet, size_t n, const uint8_t *spelled, size_t
  * is 14. Every line fits EAS_LINE_ROOM bytes; with less room than the line has, call again with that much. */
 eas_text eas_line(const uint8_t *sheet, size_t n, const uint8_t *spelled, size_t m, uint8_t *out, size_t room);
 
+/* The listing program's whole text for a run list: a line, as eas_line has it, for each spelled name, which stand one a
+ * line (a last one without newline counts unless empty). A refused sheet is the one line "sheet ! NUMBER", else a list
+ * over 65,536 bytes the one line "list ! 15". The only refusal is 14, and then nothing is written: EAS_LINE_ROOM bytes
+ * for each name, and for no name too, are always enough. The sheet is checked once for all names. */
+eas_text eas_list(const uint8_t *sheet, size_t n, const uint8_t *names, size_t m, uint8_t *out, size_t room);
+
 /* Spells a name: 8, or 14 where the room is shorter than the spelling; EAS_SPELLING_ROOM bytes are always enough. */
 eas_text eas_spell(const uint8_t *name, size_t n, uint8_t *out, size_t room);
 
-/* Reads a spelling into 40 bytes, which must be there (no null pointer): 7, 8. */
-eas_text eas_read(const uint8_t *spelled, size_t n, uint8_t name[40]);
+/* Reads a spelled name: 7 or 8, or 14 where the room is shorter than the name; EAS_NAME_ROOM bytes are always enough.
+ */
+eas_text eas_read(const uint8_t *spelled, size_t n, uint8_t *out, size_t room);
 
 #ifdef __cplusplus
 }
