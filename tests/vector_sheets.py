@@ -1,0 +1,69 @@
+"""The sheets of crates/vectors/data, from document 01, State sheet. Compares the folder with them; --write writes it."""
+
+import sys
+from pathlib import Path
+
+DATA = Path(__file__).resolve().parent.parent / "crates" / "vectors" / "data"
+D0 = 129_200_000_000
+
+
+def record(name, kind, first, second):
+    return bytes([len(name)]) + name + bytes([kind]) + first.to_bytes(8, "big") + second.to_bytes(8, "big")
+
+
+def sheet(records, count=None, mark=b"EAS", version=1):
+    """count: as many as announced, where that is not the truth"""
+    return mark + version.to_bytes(2, "big") + (len(records) if count is None else count).to_bytes(2, "big") + b"".join(records)
+
+
+def numbered(length, numbers, kind=1):
+    """records whose name is their number in so many bytes"""
+    return [record(i.to_bytes(length, "big"), kind, i, D0) for i in numbers]
+
+
+# 256 names of one byte, 3,028 of two and 5 of three: the most records that fill 65,536 bytes
+ONES, TWOS, THREES = numbered(1, range(256)), numbered(2, range(3028)), numbered(3, range(5))
+FULL = ONES + TWOS + THREES
+
+
+def last(records):
+    """the full sheet with another last record"""
+    return FULL[:-1] + records
+
+
+def sheets():
+    sample = [("nose/cap 1", 1, 101_330_000_000, D0), ("42", 2, 78_408_400, D0), ("hot", 1, 10_133_000_000_000, D0 // 10)]
+    yield "sample", sheet([record(name.encode(), *rest) for name, *rest in sample])
+    yield "3276", sheet(numbered(2, range(3267)) + numbered(3, range(9)))
+    yield "3289", sheet(FULL)
+    yield "last_name_new", sheet(last(numbered(3, [9])))
+    yield "last_name_seen", sheet(last(THREES[3:4]))
+    yield "name_seen_256_earlier", sheet(ONES + TWOS[:300] + TWOS[44:45] + TWOS[301:] + THREES)
+    yield "name_seen_2816_earlier", sheet(ONES + TWOS[:-1] + TWOS[211:212] + THREES)
+    yield "3448", sheet(numbered(1, [i % 256 for i in range(3448)]))
+    yield "last_kind_unknown", sheet(last(numbered(3, [4], kind=7)))
+    yield "announced_more", sheet(FULL, count=3290)
+    yield "announced_fewer", sheet(FULL, count=3288)
+    yield "last_byte_lost", sheet(FULL)[:-1]
+    yield "announced_65535", sheet(numbered(2, range(3276)), count=65535)
+    yield "too_long", sheet(FULL) + b"\0"
+    yield "too_long_mark_wrong", sheet(FULL, mark=b"\0AS") + b"\0"
+    yield "too_long_version_0", sheet(FULL, version=0) + b"\0"
+
+
+def main():
+    made = {f"{name}.eas": content for name, content in sheets()}
+    if sys.argv[1:] == ["--write"]:
+        DATA.mkdir(exist_ok=True)
+        for name, content in made.items():
+            (DATA / name).write_bytes(content)
+    elif sys.argv[1:] not in ([], ["--check"]):
+        sys.exit("vector_sheets.py [--check | --write]")
+    stored = {file.name: file.read_bytes() for file in DATA.iterdir()}
+    wrong = sorted(name for name in made.keys() | stored.keys() if made.get(name) != stored.get(name))
+    if wrong:
+        sys.exit(f"not the sheets of document 01: {wrong}")
+    print(f"{len(made)} sheets confirmed")
+
+
+main()
