@@ -6,3 +6,4 @@ pub mod Ranges
 pub mod Scaling
 pub mod Line
 pub mod Pieces
+pub mod Pins

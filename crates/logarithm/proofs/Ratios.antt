@@ -59,7 +59,7 @@ whole j n d b g z i w =
 lowered : (g h : ℕ) → Is (pos g -ℤ pos h) g h
 lowered g h = record { is = omega (arith, is+ (is-pos g) (is-neg (is-pos h)) .is) }
 
-pub lowered-small : (g : ℕ) → g ≤ 40000000 → natAbs (pos g -ℤ pos 20000000) ≤ 20000000
+lowered-small : (g : ℕ) → g ≤ 40000000 → natAbs (pos g -ℤ pos 20000000) ≤ 20000000
 lowered-small g h = abs-by (pos g -ℤ pos 20000000) (search zs) 20000000 (omega arith) (omega arith)
 
 pub log-small : (n d : ℕ) → 0 < n → n < 18446744073709551616 → natAbs (logOf n d) ≤ 20000000

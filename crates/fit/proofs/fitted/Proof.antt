@@ -13,12 +13,12 @@ use Rattle.fit.proofs.fitted.Tie as tie
 
 scaled-requires : tie.Need-scaled-requires
 scaled-requires c κs =
-    (rw (back (c .fits .w)) (c .pre .1 .0), (rw (back (c .fits .w)) (c .pre .1 .1 .0), in-back (c .fits .b) (c .pre .1 .1 .1)))
+    (rw (back (c .fits .w)) (c .pre .1 .0), (rw (back (c .fits .w)) (c .pre .1 .1 .0), search in-back))
 
 part : (c : tie.After-scaled) → toZ w64 (ofZ w64 (c .scaled .result)) ≡ shrZ (c .before .args .w *ℤ c .before .args .b) units
 part c =
     back-ok (c .scaled .result) (c .scaled .ok)
-    ∙ (rw (back (c .before .fits .w), back (c .before .fits .b)) at (c .scaled .ensures))
+    ∙ (simp (back (c .before .fits .w), back (c .before .fits .b)) at (c .scaled .ensures))
 
 fit : (s : tie.Start) → SFits w64 (s .args .a +ℤ shrZ (s .args .w *ℤ s .args .b) units)
 fit s = let p = s .pre in in-fits (in-wider tt (fitted-in (p .0) (p .1 .0) (p .1 .1 .0) (p .1 .1 .1)))
