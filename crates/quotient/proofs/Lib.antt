@@ -1,3 +1,4 @@
 pub mod Floors
 pub mod Machine
 pub mod Splits
+pub mod Pins
