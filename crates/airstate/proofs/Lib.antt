@@ -1,2 +1,3 @@
 pub mod Drawable
 pub mod Allowed
+pub mod Demand3

@@ -1,0 +1,40 @@
+-- Demand 3 of the struct that `eas_search` gives.
+use mathlib.Core.List.{List, List·Memᴰ}
+use mathlib.Core.Path.{_≡_}
+use Prim.Native.Nat.{ℕ}
+use Rattle.octets.specs.Room.{text}
+use Rattle.name.specs.Name.{nameOf}
+use Rattle.kind.specs.Kind.{kindOf}
+use Rattle.sheet_record.specs.declared.Record.{Record}
+use Rattle.sheet_record.specs.Front.{nameIn}
+use Rattle.sheet.specs.Sheet.{records, sheetOf}
+use Rattle.air.specs.declared.Answer.{Answer}
+use Rattle.air.specs.Held.{held}
+use Rattle.air.specs.State.{propertyOf, AcceptedAny}
+use Rattle.calculator.specs.Demand3.{Answered}
+use Rattle.flat.specs.declared.CAnswer.{CAnswer}
+use Rattle.flat.specs.Flat.{flat}
+use Rattle.flat.specs.Back.{heldIn}
+use Rattle.airstate.specs.Allowed.{IsFlatSearch}
+
+-- document 01, below the table: no condition of the state row applies, 12 and 13 judged by what the struct carries, refused or not
+abbrev pub FlatAccepted : Record → CAnswer → Type 0
+FlatAccepted r c = AcceptedAny (propertyOf (kindOf (r .kind))) (r .first) (r .second) (heldIn c)
+
+-- the struct is no refusal, and flattens an answer of which all that demand 3 says holds
+pub record FlatAnswered (r : Record) (c : CAnswer) : Type 0 where
+  pub no-refusal : c .number ≡ 0
+  pub answer : Answer
+  pub is : c ≡ flat (held answer)
+  pub answered : Answered r answer
+
+-- any accepted sheet, any record of it, any spelling that reads to its name, and the struct that the search gives for them
+abbrev pub FlatDemand3 : Type 0
+FlatDemand3 =
+    (s : List ℕ) (rs : List Record) (r : Record) (spelling : List ℕ) (c : CAnswer)
+    → sheetOf s ≡ records rs
+    → List·Memᴰ r rs
+    → nameOf spelling ≡ text (nameIn s r)
+    → IsFlatSearch s spelling c
+    → FlatAccepted r c
+    → FlatAnswered r c
