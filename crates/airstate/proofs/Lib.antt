@@ -1,3 +1,3 @@
-pub mod Drawable
+pub mod Plot
 pub mod Allowed
 pub mod Demand3

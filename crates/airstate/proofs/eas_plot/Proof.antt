@@ -2,7 +2,7 @@
 use mathlib.Core.Path.{_≡_, sym, ap, _∙_, subst}
 use Rattle.mark.specs.Mark.{markOf, CanDraw}
 use Rattle.flat.specs.Flat.{flatMark}
-use Rattle.airstate.proofs.Drawable.{search-shown}
+use Rattle.airstate.proofs.Plot.{search-shown}
 use Rattle.airstate.proofs.Allowed.{search-made}
 use borrow.Author.Needs.{needs}
 use Rattle.airstate.proofs.eas_plot.Statement.{statement}
