@@ -17,12 +17,17 @@ static size_t read_name(const uint8_t *spelled, size_t n, uint8_t name[NAME_MOST
     eas_text plain = baseline_read(spelled, n, expected);
     for (int call = 0; call < 2; call++) {
         uint8_t *out = guard_take(&name_guard, NULL, NAME_MOST);
-        eas_text read = eas_read(input, n, out);
+        eas_text read = eas_read(input, n, out, NAME_MOST);
         require(read.number == plain.number && read.length == plain.length, "eas_read's result is the plain reader's");
         require(!memcmp(out, expected, plain.length), "eas_read's name is the plain reader's");
         require(guard_kept(&name_guard, NAME_MOST, plain.length), "eas_read writes a prefix only");
         require(n == 0 || !memcmp(input, spelled, n), "eas_read leaves the spelling as it is");
         memcpy(name, out, plain.length);
+    }
+    if (plain.length > 0) {
+        eas_text cut = eas_read(input, n, guard_take(&name_guard, NULL, plain.length - 1), plain.length - 1);
+        require(cut.number == 14 && cut.length == 0, "a name without room is refused");
+        require(guard_kept(&name_guard, plain.length - 1, 0), "a refused reading writes nothing");
     }
     return plain.length;
 }

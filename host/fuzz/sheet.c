@@ -1,4 +1,4 @@
-/* Fuzz driver for eas_check, eas_find, eas_search, eas_plot, eas_line and eas_evaluate.
+/* Fuzz driver for eas_check, eas_find, eas_record_at, eas_search, eas_plot, eas_line, eas_list and eas_evaluate.
  *
  * An input is: one byte of options, one byte with the length of a spelled name, the spelled name, and a sheet.
  *   option 1  the sheet's mark, version and count are put right
@@ -8,7 +8,7 @@
  *   all eight options set: records are added up to the largest sheet or just past it
  *
  * Sheets and records are compared with the plain C calculator, answers judged by the listing's doubles. */
-#include <math.h>
+#include <stdio.h>
 #include <stdlib.h>
 #include <string.h>
 
@@ -95,7 +95,7 @@ static void check_find(query q, const eas_record *found) {
     require(found->start == plain.start && found->length == plain.length, "where a name stands");
     if (found->number)
         return;
-    eas_text read = eas_read(q.spelled, q.m, name);
+    eas_text read = eas_read(q.spelled, q.m, name, sizeof name);
     require(!read.number && read.length == found->length, "a found name has its spelling's length");
     require(!memcmp(q.sheet + found->start, name, read.length), "the part of the sheet handed back holds the name");
 }
@@ -111,7 +111,7 @@ static void check_mark(query q, const eas_answer *a) {
 static int line_agrees(query q, const eas_answer *a, const char *line, size_t length) {
     uint8_t name[NAME_MOST];
     char expected[256], spelled[SPELLED_MOST + 1] = "?";
-    eas_text read = eas_read(q.spelled, q.m, name);
+    eas_text read = eas_read(q.spelled, q.m, name, sizeof name);
     if (!read.number)
         spelled[eas_spell(name, read.length, (uint8_t *)spelled, SPELLED_MOST).length] = 0;
     int sheet_refused = eas_check(q.sheet, q.n) != 0;
@@ -144,6 +144,50 @@ static void check_line(query q, const eas_answer *a) {
             "a line without room is refused");
 }
 
+/* Each record is the one that is found by its name; behind the last there is none. */
+static void check_places(query q, uint32_t number) {
+    unsigned count = number ? 0 : record_count(q.sheet);
+    eas_record none = eas_record_at(q.sheet, q.n, count);
+    require(none.number == (number ? number : 9) && none.length == 0, "no record behind the last");
+    for (unsigned i = 0; i < count && i < 40; i++) {
+        uint8_t spelled[SPELLED_MOST];
+        eas_record at = eas_record_at(q.sheet, q.n, i);
+        require(at.number == 0, "a record at its place");
+        size_t m = eas_spell(q.sheet + at.start, at.length, spelled, sizeof spelled).length;
+        eas_record found = eas_find(q.sheet, q.n, spelled, m);
+        require(found.number == 0 && found.start == at.start && found.length == at.length && found.kind == at.kind &&
+                    found.first == at.first && found.second == at.second,
+                "a record at its place is the one with its name");
+    }
+}
+
+/* The spelled bytes as a run list: the lines of its names one after the other, or the sheet's one line. */
+static size_t join_lines(query q, uint32_t number, char *out) {
+    size_t used = 0;
+    if (number)
+        return (size_t)sprintf(out, "sheet ! %u\n", number);
+    for (size_t at = 0, end; at < q.m; at = end + 1) {
+        const uint8_t *stop = memchr(q.spelled + at, '\n', q.m - at);
+        end = stop ? (size_t)(stop - q.spelled) : q.m;
+        used += eas_line(q.sheet, q.n, q.spelled + at, end - at, (uint8_t *)out + used, LINE_MOST).length;
+    }
+    return used;
+}
+
+static void check_list(query q, uint32_t number) {
+    static char expected[256 * LINE_MOST];
+    size_t wanted = join_lines(q, number, expected);
+    uint8_t *out = guard_take(&output_guard, NULL, wanted);
+    eas_text text = eas_list(q.sheet, q.n, q.spelled, q.m, out, wanted);
+    require(text.number == 0 && text.length == wanted, "a listing has its lines' length");
+    require(wanted == 0 || !memcmp(out, expected, wanted), "a listing is its lines");
+    if (wanted == 0)
+        return;
+    eas_text cut = eas_list(q.sheet, q.n, q.spelled, q.m, guard_take(&output_guard, NULL, wanted - 1), wanted - 1);
+    require(cut.number == 14 && cut.length == 0 && guard_kept(&output_guard, wanted - 1, 0),
+            "a listing without room is refused");
+}
+
 static void check_query(query q) {
     uint32_t number = eas_check(q.sheet, q.n);
     require(number == baseline_check(q.sheet, q.n), "eas_check's number is the plain check's");
@@ -159,6 +203,8 @@ static void check_query(query q) {
         judge((uint8_t)found.kind, found.first, found.second, &a);
     check_mark(q, &a);
     check_line(q, &a);
+    check_places(q, number);
+    check_list(q, number);
 }
 
 /* A state outside a sheet, of any kind. */

@@ -123,7 +123,7 @@ static const char *judge_entropy(uint64_t energy, uint64_t density, const eas_an
     return differs;
 }
 
-const char *judge_answer(uint8_t kind, uint64_t first, uint64_t second, const eas_answer *answer) {
+const char *judge_answer(uint32_t kind, uint64_t first, uint64_t second, const eas_answer *answer) {
     if (kind != 1 && kind != 2)
         return judge_refusal(6, answer);
     if (kind == 1 ? first < P_MIN || first > P_MAX : first < E_MIN || first > E_MAX)

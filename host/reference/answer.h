@@ -23,7 +23,7 @@
 
 /* Null where the answer is allowed; else a short text that names what is wrong. Beyond each field's own rule this
  * checks the distances of demand 3 on accepted answers. */
-const char *judge_answer(uint8_t kind, uint64_t first, uint64_t second, const eas_answer *answer);
+const char *judge_answer(uint32_t kind, uint64_t first, uint64_t second, const eas_answer *answer);
 
 /* Null where two answers are equal field by field; else the field that differs. */
 const char *answers_differ(const eas_answer *a, const eas_answer *b);

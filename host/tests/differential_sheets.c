@@ -5,6 +5,7 @@
 
 #include "differential.h"
 #include "lent.h"
+#include "lists.h"
 #include "reference/answer.h"
 #include "reference/line.h"
 #include "reference/sheet.h"
@@ -13,7 +14,7 @@
 
 enum { SHEETS_PART = 22, LARGE_EVERY = 1000, EVERY_RECORD_EVERY = 16, NUMBERS = 17, ROOM_MAX = 512 };
 
-static lent_buffer sheet_lent, spelling_lent, line_lent;
+static lent_buffer sheet_lent, spelling_lent, line_lent, list_lent, listing_lent;
 static uint64_t sheets_by_number[NUMBERS], searches_by_number[NUMBERS];
 
 /* One case: what was lent, and where it stands. */
@@ -33,17 +34,37 @@ static void expect(const search_case *c, bool held, const char *what) {
         show(c);
 }
 
-static void compare_find(const search_case *c, const eas_record *expected) {
-    eas_record got = eas_find(c->at, c->sheet->n, c->spelled, c->spelling->n);
+static void compare_record(const search_case *c, const char *call, const eas_record *expected, eas_record got) {
     bool same = got.number == expected->number && got.kind == expected->kind && got.first == expected->first &&
                 got.second == expected->second && got.start == expected->start && got.length == expected->length;
-    if (tally_check(
-            same, "eas_find: expected number %" PRIu32 " kind %" PRIu32 " %" PRIu64 " %" PRIu64 " at %zu length %zu",
-            expected->number, expected->kind, expected->first, expected->second, expected->start, expected->length))
+    if (tally_check(same, "%s: expected number %" PRIu32 " kind %" PRIu32 " %" PRIu64 " %" PRIu64 " at %zu length %zu",
+                    call, expected->number, expected->kind, expected->first, expected->second, expected->start,
+                    expected->length))
         return;
     tally_note("got number %" PRIu32 " kind %" PRIu32 " %" PRIu64 " %" PRIu64 " at %zu length %zu", got.number,
                got.kind, got.first, got.second, got.start, got.length);
     show(c);
+}
+
+static void compare_find(const search_case *c, const eas_record *expected) {
+    compare_record(c, "eas_find", expected, eas_find(c->at, c->sheet->n, c->spelled, c->spelling->n));
+}
+
+/* The record at a place, or a refusal: the sheet's, then 9. */
+static void compare_place(const search_case *c, const parsed_sheet *parsed, size_t place) {
+    eas_record refused = {.number = parsed->number != 0 ? parsed->number : 9};
+    const eas_record *expected = place < parsed->count ? &parsed->records[place] : &refused;
+    compare_record(c, "eas_record_at", expected, eas_record_at(c->at, c->sheet->n, place));
+}
+
+/* Every record where all are wanted, else one; and places past the last. */
+static void compare_places(const search_case *c, random_source *r, const parsed_sheet *parsed, bool every_record) {
+    for (size_t i = 0; every_record && i < parsed->count; i++)
+        compare_place(c, parsed, i);
+    compare_place(c, parsed, random_below(r, parsed->count + 1));
+    compare_place(c, parsed, parsed->count);
+    compare_place(c, parsed, SIZE_MAX - random_below(r, 3));
+    compare_place(c, parsed, random_bits(r) >> random_below(r, 64));
 }
 
 static eas_answer compare_search(const search_case *c, const eas_record *found) {
@@ -95,6 +116,31 @@ static void compare_line(const search_case *c, random_source *r, const eas_answe
     }
 }
 
+static void compare_listing_in(const search_case *c, const name_list *list, const listing_text *expected, size_t room) {
+    bool fits = room >= expected->n;
+    const uint8_t *names = lent_input(&list_lent, list->bytes, list->n);
+    uint8_t *out = lent_output(&listing_lent, room);
+    eas_text got = eas_list(c->at, c->sheet->n, list->n == 0 ? NULL : names, list->n, room == 0 ? NULL : out, room);
+    bool same = got.number == (fits ? 0 : 14) && got.length == (fits ? expected->n : 0) &&
+                lent_output_is(&listing_lent, expected->bytes, fits ? expected->n : 0) &&
+                lent_input_kept(&list_lent, list->bytes);
+    if (tally_check(same, "eas_list in %zu bytes: expected number %d, %zu bytes", room, fits ? 0 : 14, expected->n))
+        return;
+    tally_note("got number %" PRIu32 " length %zu", got.number, got.length);
+    tally_hex("list", list->bytes, list->n);
+    show(c);
+}
+
+/* A run list in exactly its room, in one byte less, and in some other room. */
+static void compare_listing(const search_case *c, random_source *r, const parsed_sheet *parsed, const name_list *list) {
+    static listing_text expected;
+    work_out_listing(&expected, parsed, c->sheet, list);
+    compare_listing_in(c, list, &expected, expected.n);
+    if (expected.n > 0)
+        compare_listing_in(c, list, &expected, expected.n - 1);
+    compare_listing_in(c, list, &expected, random_below(r, expected.n + 100));
+}
+
 /* A spelling for this sheet: of one of its names, or any. */
 static void choose_spelling(tried_bytes *out, random_source *r, const parsed_sheet *parsed, const tried_sheet *sheet) {
     if (parsed->count == 0 || random_below(r, 4) == 0) {
@@ -121,6 +167,7 @@ static void compare_case(search_case *c, random_source *r, const parsed_sheet *p
 /* One search in the sheet, or one for every record of it. */
 static void compare_sheet(random_source *r, const tried_sheet *sheet, bool every_record) {
     static parsed_sheet parsed;
+    static name_list list;
     tried_bytes spelling = {0};
     sheet_parse(&parsed, sheet->bytes, sheet->n);
     search_case c = {.sheet = sheet, .spelling = &spelling, .at = lent_input(&sheet_lent, sheet->bytes, sheet->n)};
@@ -130,6 +177,9 @@ static void compare_sheet(random_source *r, const tried_sheet *sheet, bool every
     if (!tally_check(number == parsed.number, "eas_check: expected %" PRIu32 ", got %" PRIu32, parsed.number, number))
         show(&c);
     sheets_by_number[parsed.number]++;
+    compare_places(&c, r, &parsed, every_record);
+    random_list(&list, r, &parsed, sheet);
+    compare_listing(&c, r, &parsed, &list);
     choose_spelling(&spelling, r, &parsed, sheet);
     compare_case(&c, r, &parsed);
     for (size_t i = 0; every_record && i < parsed.count; i++) {
@@ -152,6 +202,22 @@ static void compare_edge_lengths(random_source *r, tried_sheet *sheet) {
             sheet->n = lengths[i];
             compare_sheet(r, sheet, false);
         }
+    }
+}
+
+/* Lists at and beyond 65,536 bytes, with a sheet that is accepted and one that is not. */
+static void compare_edge_lists(random_source *r, tried_sheet *sheet) {
+    static name_list list;
+    static parsed_sheet parsed;
+    tried_bytes spelling = {0};
+    for (int i = 0; i < 2 * LIST_EDGES; i++) {
+        tally_case("edge list", (uint64_t)i);
+        sheet->n = 7;
+        memcpy(sheet->bytes, i % 2 == 0 ? "EAS\0\1\0\0" : "EAS\0\2\0\0", 7);
+        sheet_parse(&parsed, sheet->bytes, sheet->n);
+        edge_list(&list, i / 2);
+        search_case c = {.sheet = sheet, .spelling = &spelling, .at = lent_input(&sheet_lent, sheet->bytes, sheet->n)};
+        compare_listing(&c, r, &parsed, &list);
     }
 }
 
@@ -196,8 +262,11 @@ void compare_sheets(uint64_t seed, uint64_t count) {
     lent_open(&sheet_lent, SHEET_ROOM);
     lent_open(&spelling_lent, SPELLING_ROOM);
     lent_open(&line_lent, ROOM_MAX);
+    lent_open(&list_lent, LIST_ROOM);
+    lent_open(&listing_lent, LISTING_ROOM);
     compare_printed_listing();
     compare_edge_lengths(&edges, &sheet);
+    compare_edge_lists(&edges, &sheet);
     for (uint64_t i = 0; i < count; i++) {
         random_source r = random_case(seed, SHEETS_PART, i);
         tally_case("random sheet", i);

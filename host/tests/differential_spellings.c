@@ -13,7 +13,7 @@
 enum { SPELLINGS_PART = 33, ROOM_MAX = 256, LONG_BYTES = 70000 };
 
 static lent_buffer input_lent, output_lent, back_lent;
-static uint64_t reads_by_number[9], writes_by_number[15];
+static uint64_t reads_by_number[15], writes_by_number[15];
 
 static void show(const char *call, const uint8_t *input, size_t n, eas_text got) {
     tally_note("%s gave number %" PRIu32 " length %zu", call, got.number, got.length);
@@ -26,24 +26,32 @@ static const uint8_t *lend(random_source *r, const uint8_t *input, size_t n) {
     return n == 0 && random_below(r, 2) ? NULL : lent;
 }
 
+/* Rooms around a length, and others. */
+static size_t choose_room(random_source *r, size_t length, size_t most) {
+    size_t rooms[] = {length, length - (length > 0), length + 1, most, random_below(r, ROOM_MAX), 0};
+    return rooms[random_below(r, 6)];
+}
+
 static void compare_read(random_source *r, const uint8_t *spelling, size_t n) {
     read_name expected = name_read(spelling, n);
+    size_t room = choose_room(r, expected.length, NAME_MAX_BYTES);
+    uint32_t number = expected.number != 0 ? expected.number : room < expected.length ? 14 : 0;
+    size_t length = number == 0 ? expected.length : 0;
     const uint8_t *input = lend(r, spelling, n);
-    uint8_t *out = lent_output(&output_lent, NAME_MAX_BYTES);
-    eas_text got = eas_read(input, n, out);
-    bool same = got.number == expected.number && got.length == expected.length &&
-                lent_output_is(&output_lent, expected.bytes, expected.length) && lent_input_kept(&input_lent, spelling);
-    if (!tally_check(same, "eas_read: expected number %" PRIu32 " length %zu", expected.number, expected.length))
+    uint8_t *out = lent_output(&output_lent, room);
+    if (room == 0 && random_below(r, 2))
+        out = NULL;
+    eas_text got = eas_read(input, n, out, room);
+    bool same = got.number == number && got.length == length && lent_output_is(&output_lent, expected.bytes, length) &&
+                lent_input_kept(&input_lent, spelling);
+    if (!tally_check(same, "eas_read in %zu bytes: expected number %" PRIu32 " length %zu", room, number, length))
         show("eas_read", spelling, n, got);
-    reads_by_number[expected.number]++;
+    reads_by_number[number]++;
 }
 
 static void compare_spell(random_source *r, const tried_bytes *name) {
     written_name expected = name_write(name->bytes, name->n);
-    size_t rooms[] = {expected.length,           expected.length - (expected.length > 0),
-                      expected.length + 1,       SPELLING_MAX_BYTES,
-                      random_below(r, ROOM_MAX), 0};
-    size_t room = rooms[random_below(r, 6)];
+    size_t room = choose_room(r, expected.length, SPELLING_MAX_BYTES);
     uint32_t number = expected.number != 0 ? expected.number : room < expected.length ? 14 : 0;
     size_t length = number == 0 ? expected.length : 0;
     const uint8_t *input = lend(r, name->bytes, name->n);
@@ -64,7 +72,7 @@ static void compare_round_trip(random_source *r, const tried_bytes *name) {
     eas_text written = eas_spell(lend(r, name->bytes, name->n), name->n, spelled, SPELLING_MAX_BYTES);
     if (written.number != 0)
         return;
-    eas_text again = eas_read(spelled, written.length, lent_output(&back_lent, NAME_MAX_BYTES));
+    eas_text again = eas_read(spelled, written.length, lent_output(&back_lent, NAME_MAX_BYTES), NAME_MAX_BYTES);
     bool same = again.number == 0 && again.length == name->n && lent_output_is(&back_lent, name->bytes, name->n);
     if (!tally_check(same, "round trip"))
         show("eas_read", name->bytes, name->n, again);
@@ -72,11 +80,12 @@ static void compare_round_trip(random_source *r, const tried_bytes *name) {
 
 static void check_reach(void) {
     tally_case("reach of spellings", 0);
-    printf("  readings by number: 0: %" PRIu64 " 7: %" PRIu64 " 8: %" PRIu64, reads_by_number[0], reads_by_number[7],
-           reads_by_number[8]);
+    printf("  readings by number: 0: %" PRIu64 " 7: %" PRIu64 " 8: %" PRIu64 " 14: %" PRIu64, reads_by_number[0],
+           reads_by_number[7], reads_by_number[8], reads_by_number[14]);
     printf("; writings by number: 0: %" PRIu64 " 8: %" PRIu64 " 14: %" PRIu64 "\n", writes_by_number[0],
            writes_by_number[8], writes_by_number[14]);
-    tally_check(reads_by_number[0] > 0 && reads_by_number[7] > 0 && reads_by_number[8] > 0, "readings");
+    tally_check(reads_by_number[0] > 0 && reads_by_number[7] > 0 && reads_by_number[8] > 0 && reads_by_number[14] > 0,
+                "readings");
     tally_check(writes_by_number[0] > 0 && writes_by_number[8] > 0 && writes_by_number[14] > 0, "writings");
 }
 

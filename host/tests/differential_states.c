@@ -42,6 +42,17 @@ static void compare_state(air_state s) {
     count_answer(&a);
 }
 
+/* A kind over 255 is unknown, whatever its low byte says. */
+static void compare_large_kinds(void) {
+    static const uint32_t kinds[] = {256, 257, 258, 511, 513, 65537, 16777218, 2147483649, 4294967042, UINT32_MAX};
+    for (size_t i = 0; i < sizeof kinds / sizeof kinds[0]; i++) {
+        tally_case("large kind", i);
+        eas_answer a = eas_evaluate(kinds[i], P0, D0);
+        if (!tally_check(judge_answer(kinds[i], P0, D0, &a) == NULL, "kind %" PRIu32, kinds[i]))
+            tally_answer("got", &a);
+    }
+}
+
 /* A run that reaches too little shows less than its numbers say. */
 static void check_reach(void) {
     static const uint32_t numbers[] = {0, 6, 10, 11, 12, 13};
@@ -75,5 +86,6 @@ void compare_states(uint64_t seed, uint64_t count) {
         tally_case("random state", i);
         compare_state(random_state(&r));
     }
+    compare_large_kinds();
     check_reach();
 }

@@ -30,6 +30,8 @@ static size_t spelled_length;
 
 static volatile uint64_t sink;
 
+static uint8_t long_list[SHEET_MOST];
+
 static void call_check(void) {
     sink = eas_check(current->bytes, current->n);
 }
@@ -58,7 +60,19 @@ static void call_spell(void) {
 
 static void call_read(void) {
     uint8_t name[NAME_MOST];
-    sink = eas_read(spelled, spelled_length, name).length;
+    sink = eas_read(spelled, spelled_length, name, sizeof name).length;
+}
+
+/* The name as a run list, and one as long as a run list may be. */
+static void call_list(void) {
+    static uint8_t text[SHEET_MOST * 8];
+    sink = eas_list(current->bytes, current->n, spelled, spelled_length, text, sizeof text).length;
+    sink = eas_list(current->bytes, current->n, long_list, sizeof long_list, text, sizeof text).length;
+}
+
+static void call_record_at(void) {
+    sink = eas_record_at(current->bytes, current->n, 0).start;
+    sink = eas_record_at(current->bytes, current->n, RECORDS_MOST).start;
 }
 
 /* Every record of the sheet, and a kind that is unknown. */
@@ -158,14 +172,18 @@ int main(void) {
         const char *name;
         void (*work)(void);
     } entries[] = {
-        {"eas_check", call_check},       {"eas_find", call_find}, {"eas_search", call_search}, {"eas_plot", call_plot},
-        {"eas_evaluate", call_evaluate}, {"eas_line", call_line}, {"eas_spell", call_spell},   {"eas_read", call_read},
+        {"eas_check", call_check},   {"eas_find", call_find}, {"eas_record_at", call_record_at},
+        {"eas_search", call_search}, {"eas_plot", call_plot}, {"eas_evaluate", call_evaluate},
+        {"eas_line", call_line},     {"eas_list", call_list}, {"eas_spell", call_spell},
+        {"eas_read", call_read},
     };
     int failures = 0;
     make_sheets();
+    for (size_t i = 0; i < sizeof long_list; i++)
+        long_list[i] = i % 20 == 19 ? '\n' : 'a';
     for (size_t i = 0; i < sizeof entries / sizeof *entries; i++) {
         size_t bytes = deepest(entries[i].work);
-        printf("%-12s %6zu bytes of stack\n", entries[i].name, bytes);
+        printf("%-13s %6zu bytes of stack\n", entries[i].name, bytes);
         failures += bytes >= MOST;
     }
     printf("stack: %zu checks, %d failures\n", sizeof entries / sizeof *entries, failures);

@@ -51,5 +51,5 @@ eas_answer search_state(const uint8_t *sheet, size_t n, const state *s) {
 }
 
 eas_text read_spelled(const uint8_t *spelled, size_t n, uint8_t name[NAME_MOST]) {
-    return eas_read(spelled, n, name);
+    return eas_read(spelled, n, name, NAME_MOST);
 }
