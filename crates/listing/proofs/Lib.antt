@@ -1,1 +1,3 @@
-pub mod Inside
+pub mod Next
+pub mod Begun
+pub mod Left

@@ -1,44 +1,42 @@
 // The listing program: reads sheet.eas and the names on standard input, and writes the listing.
-use libc::STDERR_FILENO;
-use libc::STDIN_FILENO;
-use libc::STDOUT_FILENO;
-use octets::Outcome;
-ghost use mathlib.Core.Path.{_≡_};
-ghost use lib.ListN.{length};
-ghost use Prim.Native.Nat.{_≤_};
-ghost use Rattle.io.specs.Counts.{Counts};
-ghost use Rattle.sheet.specs.Index.{Indexed};
+mod input;
+mod output;
 
-// Room for one byte more than a sheet or a list may have, so that a longer one is seen.
-fn input() -> [u8; 65537]
-    ensures { λ r. ⌜ 65537 ≡ length r ⌝ }
-{
-    [0; 65537]
+use input::Input;
+use libc::STDIN_FILENO;
+use octets::Outcome;
+use output::Written;
+ghost use mathlib.Core.List.{[]};
+ghost use mathlib.Core.Path.{_≡_};
+ghost use lib.ListN.{length, take};
+ghost use Prim.Native.Nat.{_<_, _≤_};
+ghost use Rattle.air.specs.Choices.{chosen};
+ghost use Rattle.io.specs.Counts.{Counts};
+ghost use Rattle.report.specs.Listing.{listingBy, refusalOf};
+ghost use Rattle.sheet.specs.Index.{Indexed};
+ghost use Rattle.listing.specs.Program.{ToEnd, Reached};
+
+// The account of a run: its two inputs, and how far their listing is written.
+struct Account {
+    sheet: Input,
+    list: Input,
+    written: Written,
 }
 
-// Fills a room from the sheet's file, and gives how many bytes: none where it cannot be opened.
-fn read_sheet(sheet: &mut [u8]) -> usize
-    ensures { λ r. ⌜ Counts r (now (sheet .exit)) ⌝ }
+// Reads the sheet's file into a room. One that cannot be opened counts as empty, and standard error says so.
+fn read_sheet(room: &mut [u8]) -> Input
+    requires { ⌜ 65536 < length (now room) ⌝ }
+    ensures { λ r. ⌜ Counts (r .len) (now (room .exit)) ⌝ }
+    ensures { λ r. ⌜ ToEnd r ⌝ }
 {
     let fd = os::open_read(b"sheet.eas");
     if fd < 0 {
-        return 0;
+        os::fail(b"listing: sheet.eas: cannot be opened");
+        return input::empty();
     }
-    let n = io::read_full(fd, sheet);
+    let sheet = input::read_to_end(fd, b"listing: sheet.eas: cannot be read", room);
     libc::close(fd);
-    n
-}
-
-// Writes bytes to standard output. Where that fails, as on a full disk, standard error says so: a program has no exit status of its own.
-fn emit(bytes: &[u8]) -> bool {
-    if io::write_all(STDOUT_FILENO, bytes) {
-        return true;
-    }
-    io::write_all(
-        STDERR_FILENO,
-        b"listing: the output could not be written, it is not whole\n",
-    );
-    false
+    sheet
 }
 
 // Writes the lines of a list under a sheet that is indexed, part by part through a room.
@@ -49,45 +47,72 @@ fn write_parts(
     next: &[u16; 3449],
     list: &[u8],
     out: &mut [u8],
-)
-    requires { ⌜ Indexed (now sheet) (now starts) (now heads) (now next) × (192 ≤ length (now out)) ⌝ }
+) -> Written
+    requires { ⌜ Indexed (now sheet) (now starts) (now heads) (now next) × (refusalOf (now sheet) (now list) ≡ []) ⌝ }
+    requires { ⌜ (192 ≤ length (now out)) × (length (now out) ≤ 65536) ⌝ }
+    ensures { λ r. ⌜ Reached (length (listingBy chosen (now (sheet .entry)) (now (list .entry)))) r ⌝ }
 {
     let mut start = 0;
+    let mut written = output::nothing();
     while start < list.len() {
         let part = report::part(sheet, starts, heads, next, list, start, out);
         let n = part.len;
-        if !emit(&out[..n]) {
-            return;
+        written = output::write_next(sheet, list, written, &out[..n]);
+        if written.failed() {
+            return written;
         }
         start = part.next;
     }
+    written
 }
 
 // Writes the listing of a list under a sheet through a room: the line of a refusal, or all parts.
-fn write_listing(sheet: &[u8], list: &[u8], out: &mut [u8])
-    requires { ⌜ 192 ≤ length (now out) ⌝ }
+fn write_listing(sheet: &[u8], list: &[u8], out: &mut [u8]) -> Written
+    requires { ⌜ (192 ≤ length (now out)) × (length (now out) ≤ 65536) ⌝ }
+    ensures { λ r. ⌜ Reached (length (listingBy chosen (now (sheet .entry)) (now (list .entry)))) r ⌝ }
 {
     let mut starts = distinct::no_links();
     let mut heads = distinct::no_heads();
     let mut next = distinct::no_links();
+    let nothing = output::nothing();
     match report::begin(sheet, &mut starts, &mut heads, &mut next, list, out) {
         Outcome::Done(n) => {
             if n == 0 {
-                write_parts(sheet, &starts, &heads, &next, list, out);
-            } else {
-                emit(&out[..n]);
+                return write_parts(sheet, &starts, &heads, &next, list, out);
             }
+            output::write_next(sheet, list, nothing, &out[..n])
         }
         // never: the line of a refusal fits the room
-        Outcome::Refused(_) => {}
+        Outcome::Refused(_) => nothing,
+    }
+}
+
+// Reads both inputs into rooms, and writes their listing through a third.
+fn run(sheet: &mut [u8], list: &mut [u8], out: &mut [u8]) -> Account
+    requires { ⌜ (65536 < length (now sheet)) × (65536 < length (now list)) ⌝ }
+    requires { ⌜ (192 ≤ length (now out)) × (length (now out) ≤ 65536) ⌝ }
+    ensures { λ r. ⌜ ToEnd (r .sheet) × ToEnd (r .list) ⌝ }
+    ensures { λ r. ⌜ Reached (length (listingBy chosen (take (r .sheet .len) (now (sheet .exit))) (take (r .list .len) (now (list .exit))))) (r .written) ⌝ }
+{
+    let sheet_input = read_sheet(sheet);
+    let list_input = input::read_to_end(
+        STDIN_FILENO,
+        b"listing: standard input: cannot be read",
+        list,
+    );
+    let n = sheet_input.len;
+    let m = list_input.len;
+    let written = write_listing(&sheet[..n], &list[..m], out);
+    Account {
+        sheet: sheet_input,
+        list: list_input,
+        written,
     }
 }
 
 fn main() {
-    let mut sheet = input();
-    let mut list = input();
+    let mut sheet = input::room();
+    let mut list = input::room();
     let mut out = [0u8; 65536];
-    let n = read_sheet(&mut sheet);
-    let m = io::read_full(STDIN_FILENO, &mut list);
-    write_listing(&sheet[..n], &list[..m], &mut out);
+    run(&mut sheet, &mut list, &mut out);
 }

@@ -1,18 +1,27 @@
--- `listing::write_listing` is safe. Assumes nothing.
-use mathlib.Core.Path.{sym, ap, _∙_}
-use lib.ListN.{length}
-use lib.Seq.{length-take-le}
-use Rattle.octets.specs.Room.{Text, fitting}
+-- `listing::write_listing` meets its contract. Assumes nothing.
+use mathlib.Core.List.{List}
+use mathlib.Core.Path.{_≡_, sym, ap, _∙_}
+use Prim.Native.Nat.{ℕ, _≤_}
+use native.Mathlib.Omega.{arith}
+use lib.ListN.{length, take}
 use Rattle.octets.specs.declared.Outcome.the-variants.{Done}
-use Rattle.report.specs.Listing.{refusalOf}
-use Rattle.listing.proofs.Inside.{done-inside}
+use Rattle.listing.proofs.Begun.{Begun, never-refused, begun-inside, begun-size, begun-empty, begun-whole}
+use Rattle.listing.proofs.Next.{next-whole}
 use borrow.Author.Needs.{needs}
 use Rattle.listing.proofs.write_listing.Statement.{statement}
 use Rattle.listing.proofs.write_listing.Tie as tie
 
--- the line of a refusal, if it fits
-abbrev refusal : tie.Start → Text
-refusal s = fitting (length (s .args .out .now)) (refusalOf (s .args .sheet .now) (s .args .list .now))
+abbrev entered : tie.After-n → tie.Start
+entered c = c .before .before .before .before .before .before .before .before .before .before .before .before .before .before .before .before
+
+-- what `begin` left in the room
+abbrev left : tie.After-n → List ℕ
+left c = c .before .before .before .before .begin .last .1 .1 .1 .1 .1 .0
+
+begun : (c : tie.After-n) → Begun (entered c .args .sheet .now) (entered c .args .list .now) (entered c .args .out .now) (left c) (c .n .given .0 .0)
+begun c =
+    let e = c .before .before .before .before .begin .ensures in
+    record { answer = _; count = c .n .given .1; told = e .0; holds = e .1 .0 }
 
 no-links-requires : tie.Need-no-links-requires
 no-links-requires c κs = search needs
@@ -23,6 +32,9 @@ no-heads-requires c κs = search needs
 no-links-requires-2 : tie.Need-no-links-requires-2
 no-links-requires-2 c κs = search needs
 
+nothing-requires : tie.Need-nothing-requires
+nothing-requires c κs = search needs
+
 begin-requires : tie.Need-begin-requires
 begin-requires c κs = search needs
 
@@ -31,27 +43,12 @@ enum-known-n c = search needs
 
 write-parts-requires : tie.Need-write-parts-requires
 write-parts-requires c κs =
-    let b = c .before .before .before .before .before .before .before .before .before .before in
-    let n = c .before .before .before .before .before .before .n in
-    (b .begin .ensures .1 .1 .1 (n .given .1 ∙ ap Done (c .before .before .before .before .if1 .taken)), search needs)
-
-slice-reshare-prefix-emit : tie.Need-slice-reshare-prefix-emit
-slice-reshare-prefix-emit c =
-    let s = c .before .before .before .before .before .before .before .before .before .before .before .before .before .before .before .before .before in
-    let p = c .before .before .before .before .before .before .begin .ensures in
-    done-inside (refusal s) _ (s .args .out .now) _ _ (p .0) (c .before .before .n .given .1) (p .1 .0)
-
-slice-aggregate-emit : tie.Need-slice-aggregate-emit
-slice-aggregate-emit c =
-    let s = c .before .before .before .before .before .before .before .before .before .before .before .before .before .before .before .before .before .before in
-    let p = c .before .before .before .before .before .before .before .begin .ensures in
-    sym (length-take-le _ _ (done-inside (refusal s) _ (s .args .out .now) _ _ (p .0) (c .before .before .before .n .given .1) (p .1 .0)))
-
-emit-requires : tie.Need-emit-requires
-emit-requires c κs = search needs
-
-enum-told : tie.Need-enum-told
-enum-told c = search needs
+    let a = c .before .before .before .before .before .before in
+    let b = a .before .before .before .before .begin in
+    let z = c .before .before .before .before .if1 .taken in
+    let k = b .kept .1 .1 .1 .1 .1 .0 in
+    let p = entered a .pre in
+    ((b .ensures .1 .1 .1 (a .n .given .1 ∙ ap Done z), begun-empty (begun a) z), (omega (arith, k, p .0), omega (arith, k, p .1)))
 
 same-length : tie.Need-same-length
 same-length c = search needs
@@ -59,17 +56,42 @@ same-length c = search needs
 returns : tie.Need-returns
 returns c = search needs
 
+slice-reshare-prefix-write-next : tie.Need-slice-reshare-prefix-write-next
+slice-reshare-prefix-write-next c = begun-inside (begun (c .before .before))
+
+slice-aggregate-write-next : tie.Need-slice-aggregate-write-next
+slice-aggregate-write-next c = sym (begun-size (begun (c .before .before .before)))
+
+write-next-requires : tie.Need-write-next-requires
+write-next-requires c κs =
+    let a = c .before .before .before in
+    let b = begun a in
+    let z = a .before .before .before .before .before .before .before .before .before .nothing .ensures in
+    let n : length (take (a .n .given .0 .0) (left a)) ≤ 65536 = omega (arith, begun-inside b, begun-size b, a .before .before .before .before .begin .kept .1 .1 .1 .1 .1 .0, entered a .pre .1) in
+    (rw (z .0) (next-whole _ _ (begun-whole b (c .before .if1 .left))), (z .1, omega (arith, z .0, n)))
+
+enum-told : tie.Need-enum-told
+enum-told c = search needs
+
 same-length-2 : tie.Need-same-length-2
 same-length-2 c = search needs
 
 returns-2 : tie.Need-returns-2
-returns-2 c = search needs
+returns-2 c =
+    let a = c .before .before .before .before in
+    let w = c .write-next .ensures in
+    let e = ap length (begun-whole (begun a) (c .before .before .if1 .left)) in
+    let z = a .before .before .before .before .before .before .before .before .before .nothing .ensures in
+    record { inside = omega (arith, w .inside, e, z .0); whole = λ f. omega (arith, w .whole f, e, z .0) }
 
 same-length-3 : tie.Need-same-length-3
 same-length-3 c = search needs
 
 returns-3 : tie.Need-returns-3
-returns-3 c = search needs
+returns-3 c =
+    let s = c .before .before .before .before .before .before .before .before .before .before .before .before .before .before .before .before in
+    let e = c .before .before .before .before .begin .ensures in
+    absurd (never-refused _ _ (s .args .out .now) _ _ (e .0) (e .1 .1 .0) (omega (arith, s .pre .0)) (c .enum-told .given .1))
 
 pub write-listing-spec : {M : Type 1} → statement M
 write-listing-spec =
@@ -78,15 +100,16 @@ write-listing-spec =
     no-links-requires
     no-heads-requires
     no-links-requires-2
+    nothing-requires
     begin-requires
     enum-known-n
     write-parts-requires
-    slice-reshare-prefix-emit
-    slice-aggregate-emit
-    emit-requires
-    enum-told
     same-length
     returns
+    slice-reshare-prefix-write-next
+    slice-aggregate-write-next
+    write-next-requires
+    enum-told
     same-length-2
     returns-2
     same-length-3

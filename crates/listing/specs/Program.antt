@@ -1,0 +1,22 @@
+-- What the listing program keeps account of. The kit's input and output tell how many bytes a call moved, not which.
+use mathlib.Core.Bool.{false}
+use mathlib.Core.List.{List}
+use mathlib.Core.Path.{_≡_}
+use Prim.Native.Nat.{ℕ, _≤_}
+use lib.ListN.{length}
+use Rattle.octets.specs.Bytes.{part}
+use Rattle.listing.specs.declared.input.Input.{Input}
+use Rattle.listing.specs.declared.output.Written.{Written}
+
+-- an input was read until a read gave nothing, unless it is longer than a sheet or a list may be
+abbrev pub ToEnd : Input → Type 0
+ToEnd i = i .len ≤ 65536 → i .last ≡ 0
+
+-- bytes that are the next of a listing of which `done` bytes are written
+abbrev pub Next : List ℕ → ℕ → List ℕ → Type 0
+Next listing done bytes = bytes ≡ part listing done (length bytes)
+
+-- a listing is written up to a place, or up to a write that failed
+pub record Reached (end : ℕ) (w : Written) : Type 0 where
+  pub inside : w .done ≤ end
+  pub whole : w .failed ≡ false → w .done ≡ end
