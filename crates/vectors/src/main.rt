@@ -145,7 +145,11 @@ fn values(bytes: &[u8]) {
 fn digit(b: u8) -> u8
     ensures { λ r. ⌜ r < 16 ⌝ }
 {
-    if b < b'a' { b % 16 } else { (b - b'a' + 10) % 16 }
+    if b < b'a' {
+        b % 16
+    } else {
+        (b - b'a' + 10) % 16
+    }
 }
 
 // What stands at a place.
