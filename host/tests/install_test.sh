@@ -81,7 +81,7 @@ try_tree() {
     expect "$1: the listing program" lists "$tree"
     expect "$1: a sheet and its drawing" packs_and_draws "$tree"
     expect "$1: the checklist with the installed samples" "$tree/bin/airstate-checklist"
-    for tool in sheet plot; do
+    for tool in sheet plot checklist; do
         expect "$1: airstate-$tool tells its use" help_of "$tree" $tool
     done
     for page in sheet plot checklist listing; do

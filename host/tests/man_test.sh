@@ -39,8 +39,8 @@ done < "$work/reasons"
 for heading in name spelled kind first density $(sed -n 's/.*"\([a-z]*_[A-Za-z_0-9]*\)", [0-9]*};/\1/p' host/tools/kinds.c | grep -v -e temperature -e entropy); do
     expect "airstate-sheet(1) has the heading $heading" says man/airstate-sheet.1 "$heading"
 done
-for tool in sheet_tool plot; do
-    for option in $(sed -n "s/^ *{'.', \"\([a-z]*\)\".*/\1/p" host/tools/$tool.c) help version; do
+for tool in sheet_tool plot checklist; do
+    for option in $(sed -n "s/.*{'.', \"\([a-z]*\)\".*/\1/p" host/tools/$tool.c) help version; do
         expect "airstate-${tool%_tool}(1) has --$option" says "man/airstate-${tool%_tool}.1" "--$option"
     done
 done

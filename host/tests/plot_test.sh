@@ -38,7 +38,7 @@ shows() {
     texts "$1" | grep -qxF "$2"
 }
 
-for sample in sample slash-and-space digits-only shock-tunnel; do
+for sample in $(basename -s .csv samples/*.csv); do
     expect "$sample is drawn" draws $sample
     expect "$sample: the drawing is XML" is_xml "$work/$sample.svg"
     expect "$sample: the strip at -4.5" shows "$work/$sample.svg" "join at -4.5 ± 0.025"

@@ -210,7 +210,7 @@ same() {
 stored() {
     "$tool" pack "samples/$1.csv" | cmp - "samples/$1.eas"
 }
-for sample in sample slash-and-space digits-only shock-tunnel; do
+for sample in $(basename -s .csv samples/*.csv); do
     expect "$sample.csv packs to the stored sheet" stored $sample
     for options in "" --si --spelled "--si --spelled"; do
         expect "$sample.eas comes back after unpack $options" same "$options" samples/$sample.eas

@@ -3,14 +3,11 @@
 #include <string.h>
 
 #include "checklist_judge.h"
+#include "common.h"
 #include "decimal.h"
 #include "kinds.h"
 #include "options.h"
 #include "utf8.h"
-
-#ifndef SAMPLES
-#define SAMPLES "samples"
-#endif
 
 static const char help[] = "Makes the field engineer's five checks on each SHEET and on the shipped samples.\n"
                            "Every name is asked for as a user does: by search, as a plot mark, as a listing line\n"
@@ -223,7 +220,7 @@ static bool run_samples(const char *folder) {
 }
 
 int main(int argc, char **argv) {
-    const char *folder = SAMPLES;
+    const char *folder = samples_folder();
     const tool_option options[] = {{'s', "samples", "FOLDER", "where the shipped samples are", &folder}, {0}};
     const tool checklist = {"[SHEET]...", help, options};
     int first = read_options(&checklist, argc, argv);
