@@ -41,12 +41,12 @@ all: $(STATIC) $(SHARED) $(LISTING) tools
 
 # Both are written after all crates below them are proved, again where one of their files is newer.
 $(PROVED_STATIC): $(CRATES)
-	@host/prove.sh airstate
+	@host/prove.sh airstate >&2
 	rt staticlib airstate > target/staticlib.log 2>&1 || { tail -n 20 target/staticlib.log; exit 1; }
 	@touch $@
 
 $(PROVED_LISTING): $(CRATES) | $(PROVED_STATIC)
-	@host/prove.sh listing
+	@host/prove.sh listing >&2
 	@touch $@
 
 # Only the header's entries are visible in the shared library.
@@ -59,7 +59,7 @@ tools: $(STATIC)
 	@$(HOST) tools
 
 run:
-	@host/prove.sh listing
+	@host/prove.sh listing >&2
 	@mkdir -p target/run; cp host/samples/sample.eas target/run/sheet.eas
 	@cd target/run && ../bin/listing < ../../crates/listing/stdin
 

@@ -31,12 +31,16 @@ static void read_tables_once(void) {
     done = true;
 }
 
+/* Density edges, and half the width of the strip around each. */
+enum { LOW_EDGE = -4500000, HIGH_EDGE = -500000, LOW_HALF = 25000, HIGH_HALF = 5000 };
+
 density_band band_of(int64_t y) {
-    return y <= -4500000 ? LOW_BAND : y <= -500000 ? MIDDLE_BAND : HIGH_BAND;
+    return y <= LOW_EDGE ? LOW_BAND : y <= HIGH_EDGE ? MIDDLE_BAND : HIGH_BAND;
 }
 
 bool strip_of(int64_t y, density_strip *strip) {
-    static const density_strip strips[] = {{-4525000, -4475000}, {-505000, -495000}};
+    static const density_strip strips[] = {{LOW_EDGE - LOW_HALF, LOW_EDGE + LOW_HALF},
+                                           {HIGH_EDGE - HIGH_HALF, HIGH_EDGE + HIGH_HALF}};
     for (int i = 0; i < 2; i++) {
         if (strips[i].lower < y && y < strips[i].upper) {
             *strip = strips[i];

@@ -83,11 +83,13 @@ static double legend(figure *f, double y, const item *shape, colour ink, const c
 
 static void draw_legend(figure *f, const chart *c, double y) {
     static const item perfect = {.fitted = false}, fitted = {.fitted = true}, joined = {.joined = true};
+    char text[64];
     for (unsigned i = 0; i < c->panel_count; i++) {
         const panel *p = &c->panels[i];
         bool entropy = p->kind->letter == 'S';
+        snprintf(text, sizeof text, "temperature, perfect gas (Z up to %g)", MILLIONTHS(PERFECT_Z));
         if (!entropy)
-            y = legend(f, y, &perfect, p->ink, "temperature, perfect gas (Z up to 0.25)");
+            y = legend(f, y, &perfect, p->ink, text);
         y = legend(f, y, &fitted, p->ink, entropy ? "entropy, one band" : "temperature, fitted");
         if (entropy)
             y = legend(f, y, &joined, p->ink, "entropy, joined between two bands (shaded strips)");

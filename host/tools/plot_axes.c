@@ -95,7 +95,7 @@ static void draw_tick_across(figure *f, const chart *c, const panel *p, double v
     draw_line(f, x, p->top, x, p->bottom, (pen){light, 1, false});
     draw_line(f, x, p->bottom, x, p->bottom + 5, (pen){dark, 1, false});
     f->text(f, (point){x, p->bottom + 18}, (lettering){12, dark, 0.5, false, false}, tick_text(value, step));
-    snprintf(density, sizeof density, "%.3g", 1.292 * pow(10, value));
+    snprintf(density, sizeof density, "%.3g", (double)STANDARD_DENSITY / 1e11 * pow(10, value));
     f->text(f, (point){x, p->bottom + 32}, (lettering){10, grey, 0.5, false, false}, density);
 }
 
