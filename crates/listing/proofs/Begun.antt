@@ -7,12 +7,12 @@ use native.Mathlib.Omega.{arith}
 use lib.ListN.{length, take, drop, length-append}
 use lib.Seq.{length-take-le}
 use Rattle.air.specs.Choices.{chosen}
-use Rattle.octets.specs.Room.{fitting, written, outcomeOf}
+use Rattle.octets.specs.Room.{Text, fitting, written, outcomeOf}
 use Rattle.octets.specs.declared.Outcome.{Outcome}
 use Rattle.octets.specs.declared.Outcome.the-variants.{Done, Refused}
 use Rattle.report.specs.Listing.{listingBy, refusalOf}
 use Rattle.report.specs.Steps.{refusal}
-use Rattle.report.proofs.Cases.{done-text}
+use Rattle.report.proofs.Cases.{done-fits}
 use Rattle.report.proofs.Input.{dropped}
 use Rattle.report.proofs.Whole.{whole, answered}
 
@@ -25,7 +25,9 @@ pub record Begun (sheet list room last : List ℕ) (n : ℕ) : Type 0 where
 
 module _ {sheet list room last : List ℕ} {n : ℕ} (b : Begun sheet list room last n) where
   text : (n ≡ length (refusalOf sheet list)) × (last ≡ refusalOf sheet list ++ drop (length (refusalOf sheet list)) room)
-  text = done-text (refusalOf sheet list) room last n (sym (b .count) ∙ b .told) (b .holds)
+  text =
+      let d = done-fits (refusalOf sheet list) (length room) n (sym (b .count) ∙ b .told) in
+      (d .0, b .holds ∙ ap (λ (t : Text). written t room) (d .2))
 
   pub begun-inside : n ≤ length last
   begun-inside = let t : List ℕ = refusalOf sheet list in omega (arith, text .0, ap length (text .1), length-append t (drop (length t) room))

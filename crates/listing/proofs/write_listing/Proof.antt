@@ -45,7 +45,7 @@ write-parts-requires : tie.Need-write-parts-requires
 write-parts-requires c κs =
     let a = c .before .before .before .before .before .before in
     let b = a .before .before .before .before .begin in
-    let z = c .before .before .before .before .if1 .taken in
+    let z : a .n .given .0 .0 ≡ 0 = omega (arith, c .before .before .before .before .if1 .taken) in
     let k = b .kept .1 .1 .1 .1 .1 .0 in
     let p = entered a .pre in
     ((b .ensures .1 .1 .1 (a .n .given .1 ∙ ap Done z), begun-empty (begun a) z), (omega (arith, k, p .0), omega (arith, k, p .1)))
@@ -68,7 +68,7 @@ write-next-requires c κs =
     let b = begun a in
     let z = a .before .before .before .before .before .before .before .before .before .nothing .ensures in
     let n : length (take (a .n .given .0 .0) (left a)) ≤ 65536 = omega (arith, begun-inside b, begun-size b, a .before .before .before .before .begin .kept .1 .1 .1 .1 .1 .0, entered a .pre .1) in
-    (rw (z .0) (next-whole _ _ (begun-whole b (c .before .if1 .left))), (z .1, omega (arith, z .0, n)))
+    (rw (z .0) (next-whole _ _ (begun-whole b (omega (arith, c .before .if1 .left)))), (z .1, omega (arith, z .0, n)))
 
 enum-told : tie.Need-enum-told
 enum-told c = search needs
@@ -80,7 +80,7 @@ returns-2 : tie.Need-returns-2
 returns-2 c =
     let a = c .before .before .before .before in
     let w = c .write-next .ensures in
-    let e = ap length (begun-whole (begun a) (c .before .before .if1 .left)) in
+    let e = ap length (begun-whole (begun a) (omega (arith, c .before .before .if1 .left))) in
     let z = a .before .before .before .before .before .before .before .before .before .nothing .ensures in
     record { inside = omega (arith, w .inside, e, z .0); whole = λ f. omega (arith, w .whole f, e, z .0) }
 

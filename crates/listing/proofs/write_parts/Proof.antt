@@ -1,7 +1,7 @@
 -- `listing::write_parts` meets its contract, and ends. Assumes nothing.
 use mathlib.Core.Bool.{true, false, true≢false}
 use mathlib.Core.Path.{_≡_, refl, sym, ap, _∙_}
-use Prim.Native.Nat.{_+_, _-_, _*_, _≤_}
+use Prim.Native.Nat.{_+_, _-_, _*_, _≤_, _<_}
 use native.Mathlib.Omega.{arith}
 use lib.ListN.{length}
 use lib.Seq.{length-take-le}
@@ -16,6 +16,12 @@ Inv-loop sheet starts heads next list out₀ start₀ written₀ out start writt
 
 abbrev μ-loop : tie.MeasureT-loop
 μ-loop sheet starts heads next list out₀ start₀ written₀ out start written = length list - start
+
+-- a part takes a line at least
+onward : (c : tie.After-part Inv-loop μ-loop) → c .before .before .before .loop .start < c .part .result .next
+onward c =
+    let s = c .before .before .before .before .before .before .before .before in
+    c .part .ensures .1 .0 (omega (arith, c .before .before .loop-test .taken)) (omega (arith, c .before .before .before .loop .inv .3, s .pre .1))
 
 nothing-requires : tie.Need-nothing-requires Inv-loop μ-loop
 nothing-requires c κs = search needs
@@ -60,24 +66,19 @@ returns c =
     }
 
 loop-less : tie.Need-loop-less Inv-loop μ-loop
-loop-less c =
-    let s = c .before .before .before .before .before .before .before .before .before .before .before .before .before .before in
-    let l = c .before .before .before .before .before .before .before .before .before .loop in
-    let t = c .before .before .before .before .before .before .before .before .loop-test .taken in
-    omega (arith, c .before .before .before .before .before .before .part .ensures .1 .0 t (omega (arith, l .inv .3, s .pre .1)))
+loop-less c = omega (arith, onward (c .before .before .before .before .before .before))
 
 loop-again : tie.Need-loop-again Inv-loop μ-loop
 loop-again c =
     let s = c .before .before .before .before .before .before .before .before .before .before .before .before .before .before in
     let l = c .before .before .before .before .before .before .before .before .before .loop in
-    let t = c .before .before .before .before .before .before .before .before .loop-test .taken in
-    let p = c .before .before .before .before .before .before .part .ensures in
+    let a = c .before .before .before .before .before .before in
+    let p = a .part .ensures .0 in
     let w = c .before .before .write-next in
     let f : w .result .failed ≡ false = sym (c .before .failed .ensures) ∙ c .if1 .left in
-    let n = part-size (l .inv .0) (p .0) in
+    let n = part-size (l .inv .0) p in
     let e = w .ensures .whole f in
-    let k = p .1 .0 t (omega (arith, l .inv .3, s .pre .1)) in
-    (rw (e ∙ ap (λ m. l .written .done + m) n) (part-left (l .inv .0) (p .0)), f, omega (arith, e, n, k, p .0 .inside, l .inv .2, l .inv .3, s .pre .1), search needs)
+    (rw (e ∙ ap (λ m. l .written .done + m) n) (part-left (l .inv .0) p), f, omega (arith, e, n, onward a, p .inside, l .inv .2, l .inv .3, s .pre .1), a .part .kept .1 .1 .1 .1 .1 .1 .0 ∙ l .inv .3)
 
 same-length-2 : tie.Need-same-length-2 Inv-loop μ-loop
 same-length-2 c = search needs
@@ -85,7 +86,7 @@ same-length-2 c = search needs
 returns-2 : tie.Need-returns-2 Inv-loop μ-loop
 returns-2 c =
     let l = c .before .loop in
-    record { inside = l .inv .0 .inside; whole = λ _. all-written (l .inv .0) (c .loop-test .left) }
+    record { inside = l .inv .0 .inside; whole = λ _. all-written (l .inv .0) (omega (arith, c .loop-test .left)) }
 
 pub write-parts-spec : {M : Type 1} → statement M
 write-parts-spec =

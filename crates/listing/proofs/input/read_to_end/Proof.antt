@@ -33,7 +33,7 @@ returns c =
     let l = c .before .before .before .before .before .loop in
     let r = c .before .before .before .read-some in
     let h : l .len + r .result ≤ length (r .last .1 .1 .0) = omega (arith, r .ensures, r .kept .1 .1 .0) in
-    ((h, sym (length-take-le _ _ h)), λ k. ⊎-elim (λ w. w .taken) (λ w. let f : l .len + r .result ≡ length (r .last .1 .1 .0) = eqb-true _ _ (w .1 .taken) in let e : ⊥ = omega (arith, k, f, r .kept .1 .1 .0, l .inv) in absurd e) (c .if1 .came))
+    ((h, sym (length-take-le _ _ h)), λ k. ⊎-elim (λ w. omega (arith, w .taken)) (λ w. let f : l .len + r .result ≡ length (r .last .1 .1 .0) = eqb-true _ _ (w .1 .taken) in let e : ⊥ = omega (arith, k, f, r .kept .1 .1 .0, l .inv) in absurd e) (c .if1 .came))
 
 loop-less : tie.Need-loop-less Inv-loop μ-loop
 loop-less c = search needs
