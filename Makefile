@@ -81,7 +81,7 @@ install: all
 		-e 's|@LIBDIR@|$(patsubst $(PREFIX)/%,$${prefix}/%,$(LIBDIR))|' -e 's|@VERSION@|$(VERSION)|' host/airstate.pc.in \
 		> $(DESTDIR)$(LIBDIR)/pkgconfig/airstate.pc
 	install -m 755 $(LISTING) $(DESTDIR)$(BINDIR)/airstate-listing
-	@$(HOST) install-tools TO=$(DESTDIR)$(BINDIR)
+	+@$(HOST) install-tools TO=$(DESTDIR)$(BINDIR)
 	install -m 644 $(MAN1) $(DESTDIR)$(MANDIR)/man1
 	install -m 644 $(MAN3) $(DESTDIR)$(MANDIR)/man3
 	install -m 644 $(filter-out docs/%, $(DOCUMENTS)) $(DESTDIR)$(DOCDIR)
@@ -106,7 +106,7 @@ dist:
 	@echo $(BUILD)/$(RELEASE).tar.gz
 
 test: all
-	$(HOST) test STRICT=1
+	+$(HOST) test STRICT=1
 	STRICT=1 host/tests/install_test.sh $(abspath $(STATIC)) $(abspath $(LISTING)) $(abspath $(BUILD))
 	STRICT=1 host/tests/man_test.sh
 

@@ -156,7 +156,7 @@ expect "a name that was never decoded is called out" calls_out nose%2Fcap%201 no
 expect "a name that was encoded in part is called out" calls_out nose/cap%201 nose%2Fcap%201 nose%2Fcap%25201
 expect "a percent form may be a name's own" takes_percent_forms
 for fault in 1 2 3 4 5; do
-    for entry in "" search plot line; do
+    for entry in "" search plot line list; do
         expect "fault $fault is found, by ${entry:-every entry}" finds $fault $entry
     done
 done

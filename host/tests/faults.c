@@ -19,13 +19,15 @@
 #include "reference/sheet.h"
 
 eas_answer __real_eas_search(const uint8_t *sheet, size_t n, const uint8_t *spelled, size_t m);
-eas_answer __real_eas_evaluate(uint8_t kind, uint64_t first, uint64_t second);
+eas_answer __real_eas_evaluate(uint32_t kind, uint64_t first, uint64_t second);
 eas_mark __real_eas_plot(const uint8_t *sheet, size_t n, const uint8_t *spelled, size_t m);
 eas_text __real_eas_line(const uint8_t *sheet, size_t n, const uint8_t *spelled, size_t m, uint8_t *out, size_t room);
+eas_text __real_eas_list(const uint8_t *sheet, size_t n, const uint8_t *names, size_t m, uint8_t *out, size_t room);
 eas_answer __wrap_eas_search(const uint8_t *sheet, size_t n, const uint8_t *spelled, size_t m);
-eas_answer __wrap_eas_evaluate(uint8_t kind, uint64_t first, uint64_t second);
+eas_answer __wrap_eas_evaluate(uint32_t kind, uint64_t first, uint64_t second);
 eas_mark __wrap_eas_plot(const uint8_t *sheet, size_t n, const uint8_t *spelled, size_t m);
 eas_text __wrap_eas_line(const uint8_t *sheet, size_t n, const uint8_t *spelled, size_t m, uint8_t *out, size_t room);
+eas_text __wrap_eas_list(const uint8_t *sheet, size_t n, const uint8_t *names, size_t m, uint8_t *out, size_t room);
 
 static const int64_t ONE = 10000000000;
 
@@ -52,7 +54,7 @@ static eas_answer row_answer(const uint8_t *sheet, size_t n, const uint8_t *digi
     if (row == 0 || row > parsed.count)
         return own;
     const eas_record *record = &parsed.records[row - 1];
-    return __real_eas_evaluate((uint8_t)record->kind, record->first, record->second);
+    return __real_eas_evaluate(record->kind, record->first, record->second);
 }
 
 static int64_t weight_at(const temperature_piece *piece, int64_t y, int64_t z) {
@@ -115,7 +117,7 @@ eas_answer __wrap_eas_search(const uint8_t *sheet, size_t n, const uint8_t *spel
     return has_fault("search") ? faulty_answer(sheet, n, spelled, m) : __real_eas_search(sheet, n, spelled, m);
 }
 
-eas_answer __wrap_eas_evaluate(uint8_t kind, uint64_t first, uint64_t second) {
+eas_answer __wrap_eas_evaluate(uint32_t kind, uint64_t first, uint64_t second) {
     eas_answer a = __real_eas_evaluate(kind, first, second);
     return has_fault("evaluate") ? faulty_value(a) : a;
 }
@@ -125,11 +127,35 @@ eas_mark __wrap_eas_plot(const uint8_t *sheet, size_t n, const uint8_t *spelled,
     return has_fault("plot") ? mark_of(&a) : __real_eas_plot(sheet, n, spelled, m);
 }
 
-eas_text __wrap_eas_line(const uint8_t *sheet, size_t n, const uint8_t *spelled, size_t m, uint8_t *out, size_t room) {
+/* The line with the fault in it, or 14. */
+static eas_text faulty_line(const uint8_t *sheet, size_t n, const uint8_t *spelled, size_t m, uint8_t *out,
+                            size_t room) {
     eas_answer a = faulty_answer(sheet, n, spelled, m);
     listing_line line = line_of(spelled, m, &a);
-    if (!has_fault("line") || line.length > room)
-        return __real_eas_line(sheet, n, spelled, m, out, room);
+    if (line.length > room)
+        return (eas_text){EAS_ROOM_TOO_SHORT, 0};
     memcpy(out, line.bytes, line.length);
     return (eas_text){0, line.length};
+}
+
+eas_text __wrap_eas_line(const uint8_t *sheet, size_t n, const uint8_t *spelled, size_t m, uint8_t *out, size_t room) {
+    return has_fault("line") ? faulty_line(sheet, n, spelled, m, out, room)
+                             : __real_eas_line(sheet, n, spelled, m, out, room);
+}
+
+eas_text __wrap_eas_list(const uint8_t *sheet, size_t n, const uint8_t *names, size_t m, uint8_t *out, size_t room) {
+    if (!has_fault("list"))
+        return __real_eas_list(sheet, n, names, m, out, room);
+    eas_text all = {0, 0};
+    while (m > 0) {
+        const uint8_t *end = memchr(names, '\n', m);
+        size_t length = end ? (size_t)(end - names) : m, past = end ? length + 1 : m;
+        eas_text line = faulty_line(sheet, n, names, length, out + all.length, room - all.length);
+        if (line.number)
+            return line;
+        all.length += line.length;
+        names += past;
+        m -= past;
+    }
+    return all;
 }

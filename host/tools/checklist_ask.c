@@ -36,22 +36,6 @@ uint64_t number_in_name(const asked_sheet *sheet, const named_state *s) {
     return number;
 }
 
-/* The run list as a whole: the text that the listing program prints for these names, one a line. */
-static eas_text run_list(const uint8_t *sheet, size_t n, const uint8_t *names, size_t m, uint8_t *out, size_t room) {
-    eas_text all = {0, 0};
-    while (m > 0) {
-        const uint8_t *end = memchr(names, '\n', m);
-        size_t length = end ? (size_t)(end - names) : m, past = end ? length + 1 : m;
-        eas_text line = eas_line(sheet, n, names, length, out + all.length, room - all.length);
-        if (line.number)
-            return line;
-        all.length += line.length;
-        names += past;
-        m -= past;
-    }
-    return all;
-}
-
 static asked_name *add_name(asked_sheet *sheet, asked_as as, size_t state, const uint8_t *spelled, size_t length) {
     if (sheet->count == sheet->room) {
         sheet->room = 2 * sheet->room + 64;
@@ -153,7 +137,7 @@ static size_t ask_list(asked_sheet *sheet, size_t first) {
     }
     size_t room = (end - first) * LINE_MOST;
     char *out = checked(malloc(room));
-    eas_text text = run_list(sheet->bytes, sheet->n, list, m, (uint8_t *)out, room);
+    eas_text text = eas_list(sheet->bytes, sheet->n, list, m, (uint8_t *)out, room);
     share_lines(sheet->names + first, end - first, out, text.number ? 0 : text.length);
     free(out);
     free(list);
@@ -170,7 +154,7 @@ static void find_truths(asked_sheet *sheet) {
         named_state *s = &sheet->states[i];
         s->truth = sheet->names[i].answer;
         if (!is_allowed(&s->record, &s->truth))
-            s->truth = eas_evaluate((uint8_t)s->record.kind, s->record.first, s->record.second);
+            s->truth = eas_evaluate(s->record.kind, s->record.first, s->record.second);
         s->allowed = is_allowed(&s->record, &s->truth);
     }
 }
