@@ -43,7 +43,7 @@ pub extern "C" fn eas_record_at(sheet: &[u8], i: usize) -> CRecord
     flat::flatten_found(sheet_walk::record_at(sheet, i))
 }
 
-// The answer for a spelled name.
+// The answer for a spelled name. Demand 3 of it is `FlatDemand3` (specs/Demand3).
 #[no_mangle]
 pub extern "C" fn eas_search(sheet: &[u8], spelled: &[u8]) -> CAnswer
     ensures { λ r. ⌜ r ≡ flat (searchBy chosen (now (sheet .entry)) (now (spelled .entry))) ⌝ }
@@ -64,7 +64,7 @@ pub extern "C" fn eas_evaluate(kind: u32, first: u64, second: u64) -> CAnswer
     flat::flatten(evaluate::evaluate(kind as u8, first, second))
 }
 
-// The plot mark of a spelled name.
+// The plot mark of a spelled name. That both doubles are exact is `PlotExact` (specs/Plot).
 #[no_mangle]
 pub extern "C" fn eas_plot(sheet: &[u8], spelled: &[u8]) -> CMark
     ensures { λ r. ⌜ r ≡ flatMark (markOf (searchBy chosen (now (sheet .entry)) (now (spelled .entry)))) ⌝ }
