@@ -1,9 +1,10 @@
 -- `entropy::entropy_at` is the entropy at a place: perfect up to 650,000, else the band's fit.
 use mathlib.Core.Path.{_≡_, sym, ap, _∙_}
 use mathlib.Core.Bool.{Bool, true, false, cond}
-use Prim.Native.Nat.{_+_, _*_, _^_, _<_}
+use Prim.Native.Nat.{ℕ, _+_, _*_, _^_, _<_}
 use native.Mathlib.Omega.{arith}
 use borrow.Author.Needs.{needs}
+use lib.Dec.{T, leb, leb→le}
 use lib.IntN.{ℤ, pos, natAbs, _+ℤ_, _*ℤ_}
 use lib.Signed.{leZ, shrZ}
 use mir.Syntax.{w64}
@@ -43,22 +44,23 @@ risen m = shrZ (m *ℤ pos R *ℤ pos 2302585) (2 * 10 ^ 10)
 risen-is : (c : tie.After-entropy-rise) → let s = c .before .before .before in c .entropy-rise .result ≡ risen (rise (s .args .y) (s .args .z))
 risen-is c = (rw (back-ok (c .before .rise .result) (c .before .rise .ok)) at (c .entropy-rise .ensures)) ∙ ap risen (rise-is (c .before))
 
-sum-fits : (c : tie.After-entropy-rise) → SFits w64 (pos 67792004 +ℤ c .entropy-rise .result)
-sum-fits c =
+-- the base that the code adds
+sum-fits : (k : ℕ) → T (leb k 100000000) → (c : tie.After-entropy-rise) → SFits w64 (pos k +ℤ c .entropy-rise .result)
+sum-fits k h c =
     let s = c .before .before .before in
     let m = rise (s .args .y) (s .args .z) in
     rw (risen-is c)
-    (fits64 _ (omega (arith, abs-+ (pos 67792004) (risen m), entropy-rise-size m, rise-in (s .args .y) (s .args .z) (s .pre .y-most) (s .pre .z-most) .size)))
+    (fits64 _ (omega (arith, leb→le k 100000000 h, abs-+ (pos k) (risen m), entropy-rise-size m, rise-in (s .args .y) (s .args .z) (s .pre .y-most) (s .pre .z-most) .size)))
 
 add-result : tie.Need-add-result
-add-result c = rw (back-ok (c .entropy-rise .result) (c .entropy-rise .ok)) (sum-fits c)
+add-result c = rw (back-ok (c .entropy-rise .result) (c .entropy-rise .ok)) (sum-fits _ tt c)
 
 returns : tie.Need-returns
 unfolding entropyAt perfectEntropy
 returns c =
     let s = c .before .before .before in
     let e : leZ (s .args .z) (pos 650000) ≡ true = rw (back (s .fits .z)) at (c .before .before .if1 .taken) in
-    rw (back-ok (c .entropy-rise .result) (c .entropy-rise .ok), back (sum-fits c), risen-is c)
+    rw (back (add-result c), back-ok (c .entropy-rise .result) (c .entropy-rise .ok), risen-is c)
     (ap (λ (b : Bool). cond b (perfectEntropy (s .args .y) (s .args .z)) (fittedEntropy (s .args .y) (s .args .z))) (sym e))
 
 -- ---- above

@@ -20,7 +20,7 @@ test-low c =
 test-high : (c : tie.After-above-limit2) → let s = c .before .before .before .before .before in c .above-limit2 .result ≡ aboveLimit (s .args .b) (s .args .logs .z)
 test-high c =
     let s = c .before .before .before .before .before in
-    rw (back (s .fits .b), back {z = s .args .logs .z} (search needs)) at (c .above-limit2 .ensures)
+    simp (back (s .fits .b), back {z = s .args .logs .z} (search needs)) at (c .above-limit2 .ensures)
 
 above-limit-requires : tie.Need-above-limit-requires
 above-limit-requires c κs = search needs
