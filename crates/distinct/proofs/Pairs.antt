@@ -1,10 +1,10 @@
 -- Two records with the same name, by their places in the list of starts. Assumes nothing.
-use mathlib.Core.Bool.{true, false, or-true}
+use mathlib.Core.Bool.{Bool, true, false, _||_, or-true}
 use mathlib.Core.List.{List, [], _∷_}
-use mathlib.Core.Path.{_≡_, refl}
+use mathlib.Core.Path.{_≡_, refl, ap, _∙_}
 use Prim.Native.Nat.{ℕ, zero, suc, _≤_, _<_}
 use native.Mathlib.Omega.{arith}
-use lib.ListN.{length, getD, take}
+use lib.ListN.{length, take}
 use lib.Seq.{getD-take, length-take-le}
 use Rattle.octets.specs.Bytes.{same}
 use Rattle.distinct.specs.Distinct.{nameAt, seenIn, repeats}
@@ -13,6 +13,11 @@ use Rattle.distinct.specs.Chain.{nameOf, hasName}
 -- the first n records have different names
 abbrev pub Apart : List ℕ → List ℕ → ℕ → Type 0
 Apart s starts n = (a b : ℕ) → a < b → b < n → hasName s starts (nameOf s starts b) a ≡ false
+
+seen-at : (s ps name : List ℕ) (b : ℕ) → b < length ps → same name (nameOf s ps b) ≡ true → seenIn s ps name ≡ true
+seen-at s [] name b l h = absurd (omega arith)
+seen-at s (p ∷ ps) name zero l h = rw h
+seen-at s (p ∷ ps) name (suc b) l h = ap (λ (x : Bool). same name (nameAt s p) || x) (seen-at s ps name b (omega arith) h) ∙ or-true (same name (nameAt s p))
 
 not-seen : (s ps name : List ℕ) → ((b : ℕ) → b < length ps → same name (nameOf s ps b) ≡ false) → seenIn s ps name ≡ false
 not-seen s [] name h = refl
@@ -23,11 +28,6 @@ apart-all s [] h = refl
 apart-all s (p ∷ ps) h =
     rw (not-seen s ps (nameAt s p) (λ b l. h 0 (suc b) (omega arith) (omega arith)))
     (apart-all s ps (λ a b l m. h (suc a) (suc b) (omega arith) (omega arith)))
-
-seen-at : (s ps name : List ℕ) (b : ℕ) → b < length ps → same name (nameOf s ps b) ≡ true → seenIn s ps name ≡ true
-seen-at s [] name b l h = absurd (omega arith)
-seen-at s (p ∷ ps) name zero l h = rw h
-seen-at s (p ∷ ps) name (suc b) l h = rw (seen-at s ps name b (omega arith) h) (or-true (same name (nameAt s p)))
 
 pair-repeats : (s ps : List ℕ) (a b : ℕ) → a < b → b < length ps → hasName s ps (nameOf s ps b) a ≡ true → repeats s ps ≡ true
 pair-repeats s [] a b l m h = absurd (omega arith)

@@ -31,7 +31,7 @@ returns c =
     let s = now (start .s) in
     let name = now (start .name) in
     let l : length (nameAt s (start .at)) ≡ getD s (start .at) 0 = name-length s (start .at) (c .before .before .before .before .before .pre) in
-    sym (lengths-differ (nameAt s (start .at)) name (λ e. c .if1 .taken (c .before .wide8 .ensures .0 ∙ sym l ∙ e)))
+    sym (lengths-differ (nameAt s (start .at)) name (λ e. omega (arith, c .if1 .taken, c .before .wide8 .ensures .0, l, e)))
 
 add-start : tie.Need-add-start Inv-loop μ-loop
 add-start c = search needs

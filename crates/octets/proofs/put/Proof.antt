@@ -21,7 +21,7 @@ abbrev μ-loop : tie.MeasureT-loop
 μ-loop text out₀ i₀ out i = length text - i
 
 returns : tie.Need-returns Inv-loop μ-loop
-returns c = simp (lt-leb _ _ (c .if1 .taken)) (refl, refl)
+returns c = let a = c .before .args in simp (lt-leb (length (a .text .now)) (length (a .out .now)) (omega (arith, c .if1 .taken))) (refl, refl)
 
 loop-holds : tie.Need-loop-holds Inv-loop μ-loop
 loop-holds c = search needs

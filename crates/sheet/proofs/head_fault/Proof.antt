@@ -1,5 +1,5 @@
 -- `sheet::head_fault` tests the header: each answer is a case of the definition.
-use mathlib.Core.Path.{sym, _∙_}
+use native.Mathlib.Omega.{arith}
 use borrow.Author.Tests.{le-ltb, lt-ltb, eq-eqb, ne-eqb}
 use denote.Ref.{now}
 use Rattle.octets.specs.Bytes.{numberAt}
@@ -51,13 +51,13 @@ returns-6 : tie.Need-returns-6
 unfolding headFault
 returns-6 c =
     let s = now (c .before .before .before .before .before .before .before .before .before .before .before .args .s) in
-    simp (le-ltb 65536 _ (c .before .before .before .before .before .before .before .before .before .if1 .left), le-ltb _ 7 (c .before .before .before .before .before .before .before .before .if2 .left), mark-bytes s (c .before .before .before .before .before .before .before .before .if2 .left), eq-eqb _ _ (c .before .before .before .before .before .before .if3 .left), eq-eqb _ _ (c .before .before .before .before .if4 .left), eq-eqb _ _ (c .before .before .if5 .left), eq-eqb (numberAt 2 s 3) 1 (sym (c .before .number .ensures) ∙ c .if6 .taken))
+    simp (le-ltb 65536 _ (c .before .before .before .before .before .before .before .before .before .if1 .left), le-ltb _ 7 (c .before .before .before .before .before .before .before .before .if2 .left), mark-bytes s (c .before .before .before .before .before .before .before .before .if2 .left), eq-eqb _ _ (c .before .before .before .before .before .before .if3 .left), eq-eqb _ _ (c .before .before .before .before .if4 .left), eq-eqb _ _ (c .before .before .if5 .left), eq-eqb (numberAt 2 s 3) 1 (omega (arith, c .before .number .ensures, c .if6 .taken)))
 
 returns-7 : tie.Need-returns-7
 unfolding headFault
 returns-7 c =
     let s = now (c .before .before .before .before .before .before .before .before .before .before .before .args .s) in
-    simp (le-ltb 65536 _ (c .before .before .before .before .before .before .before .before .before .if1 .left), le-ltb _ 7 (c .before .before .before .before .before .before .before .before .if2 .left), mark-bytes s (c .before .before .before .before .before .before .before .before .if2 .left), eq-eqb _ _ (c .before .before .before .before .before .before .if3 .left), eq-eqb _ _ (c .before .before .before .before .if4 .left), eq-eqb _ _ (c .before .before .if5 .left), ne-eqb (numberAt 2 s 3) 1 (λ e. c .if6 .left (c .before .number .ensures ∙ e)))
+    simp (le-ltb 65536 _ (c .before .before .before .before .before .before .before .before .before .if1 .left), le-ltb _ 7 (c .before .before .before .before .before .before .before .before .if2 .left), mark-bytes s (c .before .before .before .before .before .before .before .before .if2 .left), eq-eqb _ _ (c .before .before .before .before .before .before .if3 .left), eq-eqb _ _ (c .before .before .before .before .if4 .left), eq-eqb _ _ (c .before .before .if5 .left), ne-eqb (numberAt 2 s 3) 1 (λ e. omega (arith, c .before .number .ensures, c .if6 .left, e)))
 
 pub head-fault-spec : {M : Type 1} → statement M
 head-fault-spec =

@@ -1,5 +1,6 @@
 -- `sheet_record::end_at` gives the refusal where no record stands.
 use mathlib.Core.Path.{sym, _∙_}
+use native.Mathlib.Omega.{arith}
 use denote.Ref.{now}
 use Rattle.sheet_record.specs.Layout.{layoutIn}
 use Rattle.sheet_record.proofs.Steps.{end-last, end-over, end-fault}
@@ -10,12 +11,12 @@ use Rattle.sheet_record.proofs.end_at.Tie as tie
 returns : tie.Need-returns
 returns c =
     let start = c .before .before .before .args in
-    sym (end-last (layoutIn (now (start .s))) (now (start .s)) (start .at) (start .left) (c .before .if1 .taken) (c .if2 .taken))
+    sym (end-last (layoutIn (now (start .s))) (now (start .s)) (start .at) (start .left) (c .before .if1 .taken) (omega (arith, c .if2 .taken)))
 
 returns-2 : tie.Need-returns-2
 returns-2 c =
     let start = c .before .before .before .args in
-    sym (end-over (layoutIn (now (start .s))) (now (start .s)) (start .at) (start .left) (c .before .if1 .taken) (c .if2 .left))
+    sym (end-over (layoutIn (now (start .s))) (now (start .s)) (start .at) (start .left) (c .before .if1 .taken) (λ e. omega (arith, c .if2 .left, e)))
 
 fault-at-requires : tie.Need-fault-at-requires
 fault-at-requires c κs = search needs
