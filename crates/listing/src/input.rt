@@ -1,4 +1,5 @@
-// Reading an input to its end, into lent room.
+// Reading the two inputs to their ends, into lent rooms.
+use libc::STDIN_FILENO;
 ghost use mathlib.Core.Path.{_≡_};
 ghost use Prim.Native.Nat.{_+_, _<_, _≤_};
 ghost use lib.ListN.{length};
@@ -20,13 +21,6 @@ pub fn room() -> [u8; ROOM]
     [0; ROOM]
 }
 
-// An input without a byte.
-pub fn empty() -> Input
-    ensures { λ r. ⌜ (r .len ≡ 0) × ToEnd r ⌝ }
-{
-    Input { len: 0, last: 0 }
-}
-
 // One read into a room from a place on: how many bytes came, none at the end. Where it fails, standard error says so.
 fn read_some(fd: i32, complaint: &[u8], room: &mut [u8], at: usize) -> usize
     requires { ⌜ at ≤ length (now room) ⌝ }
@@ -41,7 +35,7 @@ fn read_some(fd: i32, complaint: &[u8], room: &mut [u8], at: usize) -> usize
 }
 
 // Reads until a read gives nothing, or the room is full.
-pub fn read_to_end(fd: i32, complaint: &[u8], room: &mut [u8]) -> Input
+fn read_to_end(fd: i32, complaint: &[u8], room: &mut [u8]) -> Input
     requires { ⌜ 65536 < length (now room) ⌝ }
     ensures { λ r. ⌜ Counts (r .len) (now (room .exit)) ⌝ }
     ensures { λ r. ⌜ ToEnd r ⌝ }
@@ -54,4 +48,33 @@ pub fn read_to_end(fd: i32, complaint: &[u8], room: &mut [u8]) -> Input
             return Input { len, last };
         }
     }
+}
+
+// Reads the sheet's file. One that cannot be opened counts as empty, and standard error says so.
+pub fn read_sheet(room: &mut [u8]) -> Input
+    requires { ⌜ 65536 < length (now room) ⌝ }
+    ensures { λ r. ⌜ Counts (r .len) (now (room .exit)) ⌝ }
+    ensures { λ r. ⌜ ToEnd r ⌝ }
+{
+    let fd = os::open_read(b"sheet.eas");
+    if fd < 0 {
+        os::fail(b"listing: sheet.eas: cannot be opened");
+        return Input { len: 0, last: 0 };
+    }
+    let sheet = read_to_end(fd, b"listing: sheet.eas: cannot be read", room);
+    libc::close(fd);
+    sheet
+}
+
+// Reads the names.
+pub fn read_list(room: &mut [u8]) -> Input
+    requires { ⌜ 65536 < length (now room) ⌝ }
+    ensures { λ r. ⌜ Counts (r .len) (now (room .exit)) ⌝ }
+    ensures { λ r. ⌜ ToEnd r ⌝ }
+{
+    read_to_end(
+        STDIN_FILENO,
+        b"listing: standard input: cannot be read",
+        room,
+    )
 }

@@ -3,7 +3,6 @@ mod input;
 mod output;
 
 use input::Input;
-use libc::STDIN_FILENO;
 use octets::Outcome;
 use output::Written;
 ghost use mathlib.Core.List.{[]};
@@ -11,7 +10,6 @@ ghost use mathlib.Core.Path.{_≡_};
 ghost use lib.ListN.{length, take};
 ghost use Prim.Native.Nat.{_<_, _≤_};
 ghost use Rattle.air.specs.Choices.{chosen};
-ghost use Rattle.io.specs.Counts.{Counts};
 ghost use Rattle.report.specs.Listing.{listingBy, refusalOf};
 ghost use Rattle.sheet.specs.Index.{Indexed};
 ghost use Rattle.listing.specs.Program.{ToEnd, Reached};
@@ -21,22 +19,6 @@ struct Account {
     sheet: Input,
     list: Input,
     written: Written,
-}
-
-// Reads the sheet's file into a room. One that cannot be opened counts as empty, and standard error says so.
-fn read_sheet(room: &mut [u8]) -> Input
-    requires { ⌜ 65536 < length (now room) ⌝ }
-    ensures { λ r. ⌜ Counts (r .len) (now (room .exit)) ⌝ }
-    ensures { λ r. ⌜ ToEnd r ⌝ }
-{
-    let fd = os::open_read(b"sheet.eas");
-    if fd < 0 {
-        os::fail(b"listing: sheet.eas: cannot be opened");
-        return input::empty();
-    }
-    let sheet = input::read_to_end(fd, b"listing: sheet.eas: cannot be read", room);
-    libc::close(fd);
-    sheet
 }
 
 // Writes the lines of a list under a sheet that is indexed, part by part through a room.
@@ -94,12 +76,8 @@ fn run(sheet: &mut [u8], list: &mut [u8], out: &mut [u8]) -> Account
     ensures { λ r. ⌜ ToEnd (r .sheet) × ToEnd (r .list) ⌝ }
     ensures { λ r. ⌜ Reached (length (listingBy chosen (take (r .sheet .len) (now (sheet .exit))) (take (r .list .len) (now (list .exit))))) (r .written) ⌝ }
 {
-    let sheet_input = read_sheet(sheet);
-    let list_input = input::read_to_end(
-        STDIN_FILENO,
-        b"listing: standard input: cannot be read",
-        list,
-    );
+    let sheet_input = input::read_sheet(sheet);
+    let list_input = input::read_list(list);
     let n = sheet_input.len;
     let m = list_input.len;
     let written = write_listing(&sheet[..n], &list[..m], out);

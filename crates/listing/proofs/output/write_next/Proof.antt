@@ -8,10 +8,6 @@ use borrow.Author.Needs.{needs}
 use Rattle.listing.proofs.Next.{next-rest, rest-size}
 use Rattle.listing.proofs.output.write_next.Statement.{statement}
 use Rattle.listing.proofs.output.write_next.Tie as tie
-use Rattle.listing.proofs.output.write_next.Reads as reads
-use Rattle.listing.proofs.output.write_next.Lts as lts
-use Rattle.listing.proofs.output.tell_loss.Reads as tell-loss-reads
-use Rattle.listing.proofs.output.write_some.Reads as write-some-reads
 
 abbrev Inv-loop : tie.InvT-loop
 Inv-loop sheet list account bytes written₀ at₀ written at = (at ≤ length bytes) × (written .done ≡ account .done + at) × (written .failed ≡ false)
