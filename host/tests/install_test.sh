@@ -11,6 +11,7 @@ installed=$work/installed
 sheet=$PWD/host/samples/sample.eas
 expected=$PWD/host/tests/expected
 PATH=/usr/bin:/bin
+unset MAKEFLAGS MFLAGS
 
 made() {
     make -s "$@" STATIC="$static" LISTING="$listing" BUILD="$build"
