@@ -29,12 +29,12 @@ extern "C" {
 #endif
 
 /* The version of this header. The library has the same soname as long as the first number stays. */
-#define EAS_VERSION_MAJOR 1
+#define EAS_VERSION_MAJOR 2
 #define EAS_VERSION_MINOR 0
 #define EAS_VERSION_PATCH 0
-#define EAS_VERSION "1.0.0"
+#define EAS_VERSION "2.0.0"
 
-/* Whether this header is of a version or a later one: #if !EAS_VERSION_AT_LEAST(1, 0, 0) ... #error */
+/* Whether this header is of a version or a later one: #if !EAS_VERSION_AT_LEAST(2, 0, 0) ... #error */
 #define EAS_VERSION_AT_LEAST(major, minor, patch)                                                                      \
     (EAS_VERSION_MAJOR * 1000000 + EAS_VERSION_MINOR * 1000 + EAS_VERSION_PATCH >=                                     \
      (major)*1000000 + (minor)*1000 + (patch))

@@ -10,6 +10,7 @@ build=$3
 installed=$work/installed
 sheet=$PWD/host/samples/sample.eas
 expected=$PWD/host/tests/expected
+major=$(sed -n 's/^#define EAS_VERSION_MAJOR //p' include/airstate.h)
 PATH=/usr/bin:/bin
 unset MAKEFLAGS MFLAGS
 
@@ -25,7 +26,7 @@ prints_stored() {
 with_shared() {
     flags=$(PKG_CONFIG_PATH=$1/lib/pkgconfig pkg-config --cflags --libs airstate) &&
         cc -std=c11 -Wall -Wextra -Wconversion -Werror "$1/share/doc/airstate/examples/example.c" $flags -o "$work/example" &&
-        prints_stored "$1" && readelf -d "$work/example" | grep 'NEEDED.*libairstate.so.1'
+        prints_stored "$1" && readelf -d "$work/example" | grep "NEEDED.*libairstate.so.$major"
 }
 
 with_static() {

@@ -6,8 +6,8 @@
 
 #include <airstate.h>
 
-#if !EAS_VERSION_AT_LEAST(1, 0, 0)
-#error "this program needs airstate 1.0.0 or later"
+#if !EAS_VERSION_AT_LEAST(2, 0, 0)
+#error "this program needs airstate 2.0.0 or later"
 #endif
 
 static uint8_t sheet[EAS_SHEET_ROOM + 1]; /* one byte more than the largest sheet, so that a longer file is refused */
