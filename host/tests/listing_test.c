@@ -1,4 +1,5 @@
-/* Runs the listing program on sheets and name lists and compares its output byte for byte.
+/* Runs the listing program on sheets and name lists and compares its output byte for byte; standard error is told of a
+ * missing sheet, and of nothing else.
  *
  * listing_test PROGRAM [seed [count]]. The program runs in an empty folder that holds sheet.eas or nothing. */
 #include <fcntl.h>
@@ -17,7 +18,7 @@ static const char *program;
 static tried_sheet sheet;
 static name_list list;
 static parsed_sheet parsed;
-static listing_text expected, got;
+static listing_text expected, got, told;
 
 static void fail(const char *what) {
     perror(what);
@@ -28,6 +29,14 @@ static void write_file(const char *name, const uint8_t *bytes, size_t n) {
     FILE *file = fopen(name, "wb");
     if (file == NULL || fwrite(bytes, 1, n, file) != n || fclose(file) != 0)
         fail(name);
+}
+
+static void read_file(const char *name, listing_text *text) {
+    FILE *file = fopen(name, "rb");
+    if (file == NULL)
+        fail(name);
+    text->n = fread(text->bytes, 1, sizeof text->bytes, file);
+    fclose(file);
 }
 
 static void redirect(const char *name, int flags, int to) {
@@ -44,17 +53,15 @@ static bool run(void) {
     if (child == 0) {
         redirect("names", O_RDONLY, STDIN_FILENO);
         redirect("lines", O_WRONLY | O_CREAT | O_TRUNC, STDOUT_FILENO);
+        redirect("told", O_WRONLY | O_CREAT | O_TRUNC, STDERR_FILENO);
         execl(program, program, (char *)NULL);
         _exit(127);
     }
     int status;
     if (waitpid(child, &status, 0) != child)
         fail("waitpid");
-    FILE *file = fopen("lines", "rb");
-    if (file == NULL)
-        fail("lines");
-    got.n = fread(got.bytes, 1, sizeof got.bytes, file);
-    fclose(file);
+    read_file("lines", &got);
+    read_file("told", &told);
     return WIFEXITED(status) && WEXITSTATUS(status) < 126;
 }
 
@@ -68,6 +75,7 @@ static void compare(bool has_file) {
         write_file("sheet.eas", sheet.bytes, sheet.n);
     write_file("names", list.bytes, list.n);
     bool ended = run();
+    tally_check((told.n == 0) == has_file, "standard error: %.*s", (int)told.n, told.bytes);
     bool same = ended && got.n == expected.n && memcmp(got.bytes, expected.bytes, got.n) == 0;
     if (tally_check(same, "%s, %zu bytes instead of %zu", ended ? "output" : "no normal end", got.n, expected.n))
         return;
@@ -116,6 +124,7 @@ int main(int count, char **arguments) {
     unlink("sheet.eas");
     unlink("names");
     unlink("lines");
+    unlink("told");
     if (chdir("/") != 0 || rmdir(folder) != 0)
         fail(folder);
     return tally_end();
