@@ -1,23 +1,18 @@
 -- What a search finds.
 use mathlib.Core.Bool.{Bool, true, false, cond}
 use mathlib.Core.List.{List, [], _∷_, List·Memᴰ, List·Memᴰ·head, List·Memᴰ·tail}
-use mathlib.Core.Path.{_≡_, refl, ap}
+use mathlib.Core.Path.{_≡_, refl}
 use Prim.Native.Nat.{ℕ}
 use Rattle.octets.specs.Bytes.{same}
 use Rattle.sheet_search.specs.Find.{findIn, findBy, findOf, Inside}
 use Rattle.sheet_record.specs.Layout.{layoutOf}
 use Rattle.sheet_record.specs.Front.{nameIn}
-use Rattle.sheet.specs.Sheet.{Sheet, refused, records, sheetOf, numberOf}
+use Rattle.sheet.specs.Sheet.{Sheet, refused, records, sheetOf}
 use Rattle.sheet_search.specs.declared.Lookup.{Lookup}
 use Rattle.sheet_search.specs.declared.Lookup.the-variants.{Hit, Miss}
 use Rattle.sheet_record.specs.declared.Record.{Record}
 use Rattle.distinct.proofs.Same.{same-equal}
 use Rattle.sheet_search.proofs.Locate.{finds}
-
--- a refused sheet's number is the search's
-pub refused-first : (t : Sheet) (s name : List ℕ) (k : ℕ) → k ≡ numberOf t → (k ≡ 0 → ⊥) → Miss k ≡ findBy t s name
-refused-first (refused n) s name k e z = ap Miss e
-refused-first (records rs) s name k e z = absurd (z e)
 
 -- what is found among records has the name, and is one of them
 pub data Finding (s : List ℕ) (rs : List Record) (name : List ℕ) : Lookup → Type 0 where

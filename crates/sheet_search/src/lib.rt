@@ -35,20 +35,6 @@ pub fn find(
     Lookup::Hit(sheet_record::entry_at(s, at, sheet_record::long(s[at])))
 }
 
-// The record that has a name in any sheet, which is checked first.
-pub fn search(s: &[u8], name: &[u8]) -> Lookup
-    ensures { λ r. ⌜ r ≡ findOf (now (s .entry)) (now (name .entry)) ⌝ }
-{
-    let mut starts = distinct::no_links();
-    let mut heads = distinct::no_heads();
-    let mut next = distinct::no_links();
-    let number = sheet::index(s, &mut starts, &mut heads, &mut next);
-    if number != 0 {
-        return Lookup::Miss(number);
-    }
-    find(s, &starts, &heads, &next, name)
-}
-
 // The found name's own bytes in the sheet, or none.
 pub fn handed_back<'a>(s: &'a [u8], found: Lookup) -> &'a [u8]
     requires { ⌜ Inside (now s) found ⌝ }

@@ -5,7 +5,7 @@
 //   read SPELLING LABEL       the name's bytes in decimal, and the name as written
 //   write ROOM NAME LABEL     how many bytes were written, and between < and > the whole room
 //   check SHEET LABEL         the refusal's number or 0
-//   find SHEET NAME LABEL     the record, and between < and > the part of the sheet that holds the name
+//   find SHEET SPELLING LABEL the record, and between < and > the part of the sheet that holds the name
 //
 // In a word \x and two hexadecimal digits stand for a byte. A sheet is its bytes, or @ and the name of a file that has them.
 use air::Answer;
@@ -362,11 +362,10 @@ fn says(found: Lookup) {
     }
 }
 
-// A search, and the part of the sheet that holds the name.
-fn finds(s: &[u8], name: &[u8]) {
-    let found = sheet_search::search(s, name);
-    says(found);
-    between(sheet_search::handed_back(s, found));
+// A search by a spelled name, and the part of the sheet that holds the name.
+fn finds(s: &[u8], spelled: &[u8]) {
+    says(calculator::locate(s, spelled));
+    between(calculator::found_name(s, spelled));
 }
 
 fn find(text: &[u8], from: usize) -> usize
@@ -375,10 +374,10 @@ fn find(text: &[u8], from: usize) -> usize
     let mut whole = room();
     let mut room = room();
     let s = next_sheet(text, from, &mut whole);
-    let name = next_word(text, s.end, b' ', &mut room);
-    let end = label(text, name.end);
+    let spelled = next_word(text, s.end, b' ', &mut room);
+    let end = label(text, spelled.end);
     let n = s.len;
-    let len = name.len;
+    let len = spelled.len;
     finds(&whole[0..n], &room[0..len]);
     end
 }
