@@ -90,12 +90,14 @@ def check(sheet_text):
     return refusal, b" %d" % refusal
 
 
-def find(sheet_text, name_text):
-    name = word(name_text)
+def find(sheet_text, spelling_text):
     refusal, found = records(sheet(sheet_text))
-    if name in found:
-        return 0, b" kind %d first %d second %d at %d <%s>" % (*found[name], name)
-    return refusal or 9, b" refused %d <>" % (refusal or 9)
+    wrong, _ = read(spelling_text)
+    name = coded(rb"%(..)", word(spelling_text)) if not wrong else None
+    refusal = refusal or wrong or (0 if name in found else 9)
+    if refusal:
+        return refusal, b" refused %d <>" % refusal
+    return 0, b" kind %d first %d second %d at %d <%s>" % (*found[name], name)
 
 
 # how many words a case has before its label, and the numbers that its lines must show
@@ -103,7 +105,7 @@ CASES = {
     b"read": (read, 1, {0, 7, 8}),
     b"write": (write, 2, {0, 8, 14}),
     b"check": (check, 1, {0, 1, 2, 3, 4, 5, 6, 16}),
-    b"find": (find, 2, {0, 3, 9, 16}),
+    b"find": (find, 2, {0, 3, 7, 8, 9, 16}),
 }
 
 
