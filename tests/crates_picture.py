@@ -26,12 +26,12 @@ def read():
 
 def reach(uses, name):
     """all that a crate rests on"""
-    found, todo = set(), list(uses[name])
-    while todo:
-        n = todo.pop()
+    found, left = set(), list(uses[name])
+    while left:
+        n = left.pop()
         if n not in found:
             found.add(n)
-            todo += uses[n]
+            left += uses[n]
     return found
 
 
