@@ -90,7 +90,7 @@ pub extern "C" fn eas_list(sheet: &[u8], names: &[u8], out: &mut [u8]) -> CText
     ensures { λ _. ⌜ now (out .exit) ≡ written (listingIn (length (now (out .entry))) (now (sheet .entry)) (now (names .entry))) (now (out .entry)) ⌝ }
     ensures { λ r. ⌜ IsFlatListing (now (sheet .entry)) (now (names .entry)) (now (out .entry)) (now (out .exit)) r ⌝ }
 {
-    flat::flatten_text(report::listing(sheet, names, out))
+    flat::flatten_text(run_list::listing(sheet, names, out))
 }
 
 // Spells a raw name into lent room.

@@ -1,4 +1,4 @@
-// A line, and the listing whole or in parts, written to lent room.
+// A line, and the listing in parts, written to lent room.
 use air::Answer;
 use line::Line;
 use octets::Outcome;
@@ -11,13 +11,13 @@ ghost use Rattle.calculator.specs.Search.{searchBy};
 ghost use Rattle.line.specs.Line.{line, refusalRest, lineHeld};
 ghost use Rattle.octets.specs.Room.{fitting, written, outcomeOf};
 ghost use Rattle.sheet.specs.Index.{Blank, Indexed};
-ghost use Rattle.report.specs.Listing.{linesOf, linesBy, listingBy, refusalOf};
+ghost use Rattle.report.specs.Listing.{linesOf, linesBy, refusalOf};
 ghost use Rattle.report.specs.Steps.{FirstLine, NextLine, Part};
 
 // The line of a name of the list, and the place of the next name.
-struct Built {
-    line: Line,
-    next: usize,
+pub struct Built {
+    pub line: Line,
+    pub next: usize,
 }
 
 // How far a part came: the place of the first line that is left, and the bytes that were written.
@@ -80,7 +80,7 @@ fn line_end(list: &[u8], start: usize) -> usize
 }
 
 // The line of the name that starts at a place of the list, under a sheet that is indexed.
-fn next_line(
+pub fn next_line(
     sheet: &[u8],
     starts: &[u16; 3449],
     heads: &[u16; 4096],
@@ -178,72 +178,5 @@ pub fn part(
     Progress {
         next: from,
         len: at,
-    }
-}
-
-// The length of all lines of a list under a sheet that is indexed, or 14 where a room of so many bytes is too short for them.
-fn measure(
-    sheet: &[u8],
-    starts: &[u16; 3449],
-    heads: &[u16; 4096],
-    next: &[u16; 3449],
-    list: &[u8],
-    room: usize,
-) -> Outcome
-    requires { ⌜ Indexed (now sheet) (now starts) (now heads) (now next) ⌝ }
-    ensures { λ r. ⌜ r ≡ outcomeOf (fitting room (linesBy chosen (now (sheet .entry)) (linesOf (now (list .entry))))) ⌝ }
-{
-    let mut from = 0;
-    let mut n = 0;
-    while from < list.len() {
-        let built = next_line(sheet, starts, heads, next, list, from);
-        let line = built.line;
-        if room - n < line.len {
-            return Outcome::Refused(14);
-        }
-        n += line.len;
-        from = built.next;
-    }
-    Outcome::Done(n)
-}
-
-// All lines of a list under a sheet that is indexed, in lent room: they are measured before one is written.
-fn put_lines(
-    sheet: &[u8],
-    starts: &[u16; 3449],
-    heads: &[u16; 4096],
-    next: &[u16; 3449],
-    list: &[u8],
-    out: &mut [u8],
-) -> Outcome
-    requires { ⌜ Indexed (now sheet) (now starts) (now heads) (now next) ⌝ }
-    ensures { λ r. ⌜ r ≡ outcomeOf (fitting (length (now (out .entry))) (linesBy chosen (now (sheet .entry)) (linesOf (now (list .entry))))) ⌝ }
-    ensures { λ _. ⌜ now (out .exit) ≡ written (fitting (length (now (out .entry))) (linesBy chosen (now (sheet .entry)) (linesOf (now (list .entry))))) (now (out .entry)) ⌝ }
-{
-    match measure(sheet, starts, heads, next, list, out.len()) {
-        Outcome::Refused(number) => Outcome::Refused(number),
-        Outcome::Done(n) => {
-            part(sheet, starts, heads, next, list, 0, out);
-            Outcome::Done(n)
-        }
-    }
-}
-
-// The whole listing of a list under a sheet, in lent room.
-pub fn listing(sheet: &[u8], list: &[u8], out: &mut [u8]) -> Outcome
-    ensures { λ r. ⌜ r ≡ outcomeOf (fitting (length (now (out .entry))) (listingBy chosen (now (sheet .entry)) (now (list .entry)))) ⌝ }
-    ensures { λ _. ⌜ now (out .exit) ≡ written (fitting (length (now (out .entry))) (listingBy chosen (now (sheet .entry)) (now (list .entry)))) (now (out .entry)) ⌝ }
-{
-    let mut starts = distinct::no_links();
-    let mut heads = distinct::no_heads();
-    let mut next = distinct::no_links();
-    match begin(sheet, &mut starts, &mut heads, &mut next, list, out) {
-        Outcome::Refused(number) => Outcome::Refused(number),
-        Outcome::Done(n) => {
-            if n != 0 {
-                return Outcome::Done(n);
-            }
-            put_lines(sheet, &starts, &heads, &next, list, out)
-        }
     }
 }

@@ -1,4 +1,4 @@
--- `report::listing` meets its contract. Assumes nothing.
+-- `run_list::listing` meets its contract. Assumes nothing.
 use mathlib.Core.List.{List}
 use mathlib.Core.Path.{_≡_, sym, ap, _∙_}
 use Prim.Native.Nat.{ℕ}
@@ -9,11 +9,11 @@ use Rattle.air.specs.Choices.{chosen}
 use Rattle.octets.specs.declared.Outcome.{Outcome}
 use Rattle.octets.specs.declared.Outcome.the-variants.{Done}
 use Rattle.octets.specs.Room.{fitting, written, outcomeOf}
 use Rattle.report.specs.Listing.{linesOf, linesBy, listingBy, refusalOf}
 use Rattle.report.proofs.Cases.{one-line, all-lines}
 use borrow.Author.Needs.{needs}
-use Rattle.report.proofs.listing.Statement.{statement}
-use Rattle.report.proofs.listing.Tie as tie
+use Rattle.run_list.proofs.listing.Statement.{statement}
+use Rattle.run_list.proofs.listing.Tie as tie
 
 module _ (sheet list out last : List ℕ) (r : Outcome) (e : r ≡ outcomeOf (fitting (length out) (refusalOf sheet list)))
     (w : last ≡ written (fitting (length out) (refusalOf sheet list)) out) where

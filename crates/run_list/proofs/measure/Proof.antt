@@ -1,4 +1,4 @@
--- `report::measure` meets its contract. Assumes nothing.
+-- `run_list::measure` meets its contract. Assumes nothing.
 use mathlib.Core.Path.{_≡_, refl, ap}
 use Prim.Native.Nat.{_+_, _-_, _≤_}
 use native.Mathlib.Omega.{arith}
@@ -6,9 +6,9 @@ use lib.ListN.{length}
 use borrow.Author.Needs.{needs}
 use borrow.Author.Tests.{le-leb, lt-leb}
 use Rattle.octets.specs.declared.Outcome.the-variants.{Done}
 use Rattle.report.proofs.Output.{left, left-next, left-none}
-use Rattle.report.proofs.measure.Statement.{statement}
-use Rattle.report.proofs.measure.Tie as tie
+use Rattle.run_list.proofs.measure.Statement.{statement}
+use Rattle.run_list.proofs.measure.Tie as tie
 
 -- what was counted and what is left make the whole
 abbrev Inv-loop : tie.InvT-loop

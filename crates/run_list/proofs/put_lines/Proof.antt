@@ -1,4 +1,4 @@
--- `report::put_lines` meets its contract. Assumes nothing.
+-- `run_list::put_lines` meets its contract. Assumes nothing.
 use mathlib.Core.List.{List}
 use mathlib.Core.Path.{_≡_, sym, ap, _∙_}
 use Prim.Native.Nat.{ℕ, _≤_}
@@ -8,13 +8,13 @@ use Rattle.octets.specs.Room.{Text, fitting, outcomeOf, written}
 use Rattle.octets.specs.declared.Outcome.{Outcome}
 use Rattle.octets.specs.declared.Outcome.the-variants.{Done, Refused}
 use Rattle.octets.proofs.Held.{held-refused}
 use Rattle.report.specs.Listing.{linesOf, linesBy}
 use Rattle.report.specs.Steps.{Part}
 use Rattle.report.proofs.Cases.{done-fits}
 use Rattle.report.proofs.Output.{left, part-whole}
 use borrow.Author.Needs.{needs}
-use Rattle.report.proofs.put_lines.Statement.{statement}
-use Rattle.report.proofs.put_lines.Tie as tie
+use Rattle.run_list.proofs.put_lines.Statement.{statement}
+use Rattle.run_list.proofs.put_lines.Tie as tie
 
 -- r is what the lines measure
 module _ (sheet list room : List ℕ) (r : Outcome) (e : r ≡ outcomeOf (fitting (length room) (linesBy chosen sheet (linesOf list)))) where
