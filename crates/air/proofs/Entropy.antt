@@ -10,9 +10,10 @@ use lib.Signed.{_≤ℤ_, _<ℤ_, leZ, ltZ, leZ-yes, ltZ-yes, ltZ-no, shrZ}
 use Rattle.integer.specs.Z.{up, dn, zs, v, ≤→, <→, →≤, ≡-by}
 use Rattle.integer.specs.Laws.{≤ℤ-trans}
 use Rattle.fraction.specs.Fraction.{Fraction, Within, whole, parts, plus, minus, times, over}
-use Rattle.fit.specs.Fit.{bicubic, straight}
-use Rattle.fit.specs.Exact.{exactly, exactBicubic}
-use Rattle.fit.proofs.Near.{near-whole, near-plus, near-more, near-down, near-scaled, stands, bicubic-near, near-straight}
+use Rattle.bicubic.specs.Bicubic.{bicubic}
+use Rattle.fit.specs.Fit.{straight}
+use Rattle.bicubic.specs.Exact.{exactly, exactBicubic}
+use Rattle.bicubic.proofs.Near.{near-whole, near-plus, near-more, near-down, near-scaled, stands, bicubic-near, near-straight}
 use Rattle.bands.specs.declared.Band.{Band}
 use Rattle.bands.specs.declared.Band.the-variants.{Low, Middle, High}
 use Rattle.bands.specs.declared.Strip.{Strip}

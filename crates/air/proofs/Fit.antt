@@ -9,7 +9,7 @@ use Rattle.integer.specs.Z.{dn, ≤→, <→}
 use Rattle.fraction.specs.Fraction.{Within}
 use Rattle.weight.specs.Weight.{tolerance}
 use Rattle.fit.specs.Fit.{Weighs, fitted}
-use Rattle.fit.proofs.Size.{size}
+use Rattle.bicubic.proofs.Size.{size}
 use Rattle.fit.proofs.Distance.{Box, distance, allWithin, table-near}
 use Rattle.bands.specs.declared.Band.{Band}
 use Rattle.bands.specs.declared.Band.the-variants.{Low, Middle, High}

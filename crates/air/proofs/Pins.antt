@@ -12,7 +12,7 @@ use Rattle.fraction.proofs.Pins.{one-above, one-below, one-not-above, one-not-b
 use Rattle.logarithm.specs.Choice.{factors, factorLogs, points, rises, chordOf, nearOne, mantissaOf, lgOf, logOf}
 use Rattle.power.specs.Choice.{coarse, middle, fine, strideOf, stepOf, powerOf}
 use Rattle.quotient.specs.Mul.{mul}
-use Rattle.fit.specs.Fit.{gas1, gas2, gas3, gas4, bicubic}
+use Rattle.bicubic.specs.Bicubic.{gas1, gas2, gas3, gas4, bicubic}
 use Rattle.tgas1_temperature.specs.Pieces.{temperaturePieces}
 use Rattle.perfect.specs.Perfect.{perfectGas}
 use Rattle.air.specs.declared.Edges.the-variants.{Unfitted, One}

@@ -6,7 +6,7 @@ use mathlib.Core.Path.{_≡_, refl, ap, _∙_, subst}
 use Prim.Native.Nat.{ℕ, _*_, _^_}
 use lib.IntN.{ℤ, pos, _-ℤ_}
 use Rattle.quotient.specs.Mul.{mul}
-use Rattle.fit.specs.Fit.{gas1, gas2, gas3, gas4, bicubic}
+use Rattle.bicubic.specs.Bicubic.{gas1, gas2, gas3, gas4, bicubic}
 use Rattle.tgas1_temperature.specs.Pieces.{temperaturePieces}
 use Rattle.bands.specs.Region.{regionOf}
 use Rattle.tgas2_entropy.specs.Entropy.{entropyCoefficients}

@@ -10,8 +10,8 @@ use lib.Signed.{leZ, shrZ}
 use Rattle.integer.specs.Z.{zs, v}
 use Rattle.integer.specs.Laws.{abs-is, abs-by, abs-+, abs-*}
 use Rattle.quotient.specs.Range.{In, AllIn}
-use Rattle.fit.specs.Fit.{bicubic}
-use Rattle.fit.proofs.Size.{size, bicubic-size-all}
+use Rattle.bicubic.specs.Bicubic.{bicubic}
+use Rattle.bicubic.proofs.Size.{size, bicubic-size-all}
 use Rattle.quotient.proofs.Floors.{quotient-upto}
 use Rattle.quotient.proofs.Machine.{all-at}
 use Rattle.fit.proofs.Scaling.{entropy-rise-size}

@@ -5,7 +5,7 @@ use Prim.Native.Nat.{ℕ, _*_, _^_}
 use lib.IntN.{ℤ, pos, _+ℤ_, _-ℤ_, _*ℤ_}
 use lib.Signed.{leZ, ltZ, shrZ}
 use Rattle.logarithm.specs.Log.{IsLog}
-use Rattle.fit.specs.Fit.{bicubic}
+use Rattle.bicubic.specs.Bicubic.{bicubic}
 use Rattle.bands.specs.declared.Strip.{Strip}
 use Rattle.bands.specs.Bands.{bandOf, stripOf}
 use Rattle.tgas2_entropy.specs.Entropy.{entropyCoefficients, entropyLimit}

@@ -4,7 +4,8 @@ use Prim.Native.Nat.{ℕ, _*_, _^_}
 use lib.IntN.{ℤ, pos, _*ℤ_}
 use lib.Signed.{leZ}
 use Rattle.fraction.specs.Fraction.{Fraction, whole, parts, plus, times, over}
-use Rattle.fit.specs.Exact.{exactly, exactBicubic, exactFit}
+use Rattle.bicubic.specs.Exact.{exactly, exactBicubic}
+use Rattle.fit.specs.Exact.{exactFit}
 use Rattle.bands.specs.Bands.{bandOf, stripOf}
 use Rattle.tgas2_entropy.specs.Entropy.{entropyCoefficients}
 use Rattle.perfect.specs.Perfect.{R}

@@ -99,7 +99,7 @@ pub extern "C" fn eas_spell(name: &[u8], out: &mut [u8]) -> CText
     ensures { λ r. ⌜ r ≡ flatText (outcomeOf (spellingOf (now (name .entry)) (length (now (out .entry))))) ⌝ }
     ensures { λ _. ⌜ now (out .exit) ≡ written (spellingOf (now (name .entry)) (length (now (out .entry)))) (now (out .entry)) ⌝ }
 {
-    flat::flatten_text(name::spell(name, out))
+    flat::flatten_text(name_writer::spell(name, out))
 }
 
 // Reads a spelling into lent room.
@@ -108,7 +108,7 @@ pub extern "C" fn eas_read(spelled: &[u8], out: &mut [u8]) -> CText
     ensures { λ r. ⌜ r ≡ flatText (outcomeOf (readIn (length (now (out .entry))) (now (spelled .entry)))) ⌝ }
     ensures { λ _. ⌜ now (out .exit) ≡ written (readIn (length (now (out .entry))) (now (spelled .entry))) (now (out .entry)) ⌝ }
 {
-    let read = name::read(spelled);
+    let read = name_reader::read(spelled);
     let bytes = read.bytes;
     let outcome = read.outcome;
     match outcome {

@@ -20,7 +20,7 @@ pub fn locate_in(
     requires { ⌜ Indexed (now sheet) (now starts) (now heads) (now next) ⌝ }
     ensures { λ r. ⌜ r ≡ locate (now (sheet .entry)) (now (spelled .entry)) ⌝ }
 {
-    let name = name::read(spelled);
+    let name = name_reader::read(spelled);
     let bytes = name.bytes;
     let outcome = name.outcome;
     match outcome {

@@ -32,7 +32,7 @@ fn entropy_at(y: i64, z: i64) -> i64
         return 67792004 + fit::entropy_rise(rise(y, z));
     }
     let band = bands::band_of(y);
-    fit::entropy_of_fit(fit::bicubic(tgas2_entropy::entropy_bicubic(band), y, z))
+    fit::entropy_of_fit(bicubic::bicubic(tgas2_entropy::entropy_bicubic(band), y, z))
 }
 
 // Refusal 12 of an entropy.

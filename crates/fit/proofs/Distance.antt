@@ -14,10 +14,12 @@ use Rattle.fraction.specs.Fraction.{Fraction, Within, times, over}
 use Rattle.weight.specs.Weight.{units}
 use Rattle.weight.proofs.Lipschitz.{weightTop, weightBottom, ideal-is, weight-some, weight-most}
 use Rattle.weight.proofs.Moved.{moved}
-use Rattle.fit.specs.Fit.{Transition, Piece, alone, joint, coefficient, bicubic, exponent, Weighs, fitted}
-use Rattle.fit.specs.Exact.{exactly, exactBicubic, exactExponent, exactFit}
-use Rattle.fit.proofs.Near.{near-plus, near-more, bicubicLoss, exponentLoss, stands, bicubic-near, exponent-near}
-use Rattle.fit.proofs.Size.{ceiling, ceiling-holds, size, bicubic-size}
+use Rattle.bicubic.specs.Bicubic.{coefficient, bicubic, exponent}
+use Rattle.fit.specs.Fit.{Transition, Piece, alone, joint, Weighs, fitted}
+use Rattle.bicubic.specs.Exact.{exactly, exactBicubic, exactExponent}
+use Rattle.fit.specs.Exact.{exactFit}
+use Rattle.bicubic.proofs.Near.{near-plus, near-more, bicubicLoss, exponentLoss, stands, bicubic-near, exponent-near}
+use Rattle.bicubic.proofs.Size.{ceiling, ceiling-holds, size, bicubic-size}
 use Rattle.fit.proofs.Weighted.{near-weighted}
 
 -- what the weight costs a B of at most s, in whole units: s·(k + e / 2) / U, where the exponent loses at most e

@@ -1,9 +1,6 @@
-pub mod Near
-pub mod Size
+pub mod Pins
 pub mod Weighted
 pub mod Distance
-pub mod Ranges
 pub mod Scaling
 pub mod Line
 pub mod Pieces
-pub mod Pins

@@ -12,10 +12,11 @@ use Rattle.fit.specs.declared.Form.{Form}
 use Rattle.fit.specs.declared.Form.the-variants.{Alone, Joint}
 use Rattle.fit.specs.declared.Coefficients.{Coefficients}
 use Rattle.quotient.specs.Range.{In, allIn, AllIn}
-use Rattle.fit.specs.Fit.{Piece, alone, joint, firstOf, secondOf, termsOf, bicubic, exponent}
+use Rattle.bicubic.specs.Bicubic.{bicubic, exponent}
+use Rattle.fit.specs.Fit.{Piece, alone, joint, firstOf, secondOf, termsOf}
 use Rattle.fit.specs.Edge.{formed, pieceOf, edgeWith, Small, Workable}
 use Rattle.quotient.proofs.Machine.{in-wider}
-use Rattle.fit.proofs.Ranges.{bicubic-in}
+use Rattle.bicubic.proofs.Ranges.{bicubic-in}
 
 -- ---- small coefficients
 abbrev isSmall : Piece → Bool

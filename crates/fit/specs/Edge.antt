@@ -6,7 +6,8 @@ use Rattle.fit.specs.declared.Form.the-variants.{Alone, Joint}
 use Rattle.fit.specs.declared.Coefficients.{Coefficients}
 use Rattle.fit.specs.declared.Edge.{Edge}
 use Rattle.quotient.specs.Range.{In, AllIn}
-use Rattle.fit.specs.Fit.{Piece, alone, joint, firstOf, secondOf, termsOf, bicubic, exponent, fitted}
+use Rattle.bicubic.specs.Bicubic.{bicubic, exponent}
+use Rattle.fit.specs.Fit.{Piece, alone, joint, firstOf, secondOf, termsOf, fitted}
 
 -- the piece of a form over its lists; a form that lacks a list leaves it aside
 abbrev pub formed : Form → List ℤ → List ℤ → List ℤ → Piece

@@ -1,15 +1,15 @@
-// The fit engine in 64 bits: the bicubic, the exponent, G and the straight line of a join.
-use quotient::mul;
+// The fit engine in 64 bits: G of a piece, and the straight line of a join.
+use bicubic::bicubic;
+use bicubic::exponent;
 use quotient::mul_div;
 ghost use mathlib.Core.Path.{_≡_};
-ghost use Prim.Native.Nat.{_*_, _^_, _<_};
-ghost use lib.IntN.{pos, natAbs, _+ℤ_, _*ℤ_};
-ghost use lib.Signed.{shrZ, _≤ℤ_, _<ℤ_};
+ghost use Prim.Native.Nat.{_*_, _^_};
+ghost use lib.IntN.{pos, _+ℤ_, _*ℤ_};
+ghost use lib.Signed.{shrZ, _≤ℤ_};
 ghost use Rattle.weight.specs.Weight.{units};
 ghost use Rattle.weight.specs.Choice.{weightOf};
-ghost use Rattle.quotient.specs.Range.{In, AllIn, Between};
-ghost use Rattle.quotient.specs.Mul.{mul};
-ghost use Rattle.fit.specs.Fit.{bicubic, exponent, straight};
+ghost use Rattle.quotient.specs.Range.{In, Between};
+ghost use Rattle.fit.specs.Fit.{straight};
 ghost use Rattle.fit.specs.Edge.{pieceOf, edgeWith, Workable};
 
 // What a piece has: a bicubic alone, or a second one with the exponent that leads to it.
@@ -31,49 +31,6 @@ pub struct Coefficients {
 pub struct Edge {
     pub fit: i64,
     pub weight: i64,
-}
-
-// a + bY.
-fn linear(a: i64, b: i64, y: i64) -> i64
-    requires { ⌜ (In 44 a) × ((In 44 b) × (In 25 y)) ⌝ }
-    ensures { λ r. ⌜ r ≡ a +ℤ mul b y ⌝ }
-{
-    a + mul(b, y)
-}
-
-// (a + bY)Z.
-fn linear_by(a: i64, b: i64, y: i64, z: i64) -> i64
-    requires { ⌜ (In 44 a) × ((In 44 b) × ((In 25 y) × (In 25 z))) ⌝ }
-    ensures { λ r. ⌜ r ≡ mul (a +ℤ mul b y) z ⌝ }
-{
-    mul(linear(a, b, y), z)
-}
-
-// (a + bY + cZ)ZZ.
-fn linear_by_square(a: i64, b: i64, c: i64, y: i64, z: i64) -> i64
-    requires { ⌜ (In 44 a) × ((In 44 b) × ((In 44 c) × ((In 25 y) × (In 25 z)))) ⌝ }
-    ensures { λ r. ⌜ r ≡ mul (mul (a +ℤ mul b y +ℤ mul c z) z) z ⌝ }
-{
-    mul(mul(linear(a, b, y) + mul(c, z), z), z)
-}
-
-// The bicubic of ten coefficients.
-pub fn bicubic(k: [i64; 10], y: i64, z: i64) -> i64
-    requires { ⌜ (AllIn 44 k) × ((In 25 y) × (In 25 z)) ⌝ }
-    ensures { λ r. ⌜ r ≡ bicubic k y z ⌝ }
-{
-    linear(k[0], k[1], y)
-        + linear_by(k[2], k[3], y, z)
-        + linear_by_square(k[4], k[5], k[6], z, y)
-        + linear_by_square(k[7], k[8], k[9], y, z)
-}
-
-// The exponent of four terms.
-pub fn exponent(c: [i64; 4], y: i64, z: i64) -> i64
-    requires { ⌜ (AllIn 44 c) × ((In 25 y) × (In 25 z)) ⌝ }
-    ensures { λ r. ⌜ r ≡ exponent c y z ⌝ }
-{
-    linear(c[0], c[1], y) + mul(c[2], z) + mul(mul(c[3], y), z)
 }
 
 // W * B / 10^10 of any B: it is split by 10^10 and what is left of it is divided twice by 10^5.

@@ -10,9 +10,10 @@ use lib.Dec.{leb}
 use lib.ListN.{length, take}
 use Rattle.octets.specs.Room.{Text, text, refused}
 use Rattle.name.specs.Spelling.{spelled}
-use Rattle.name.specs.Name.{isLength, nameOf, spellingOf, spellingHeld}
-use Rattle.name.specs.declared.Spelled.{Spelled}
-use Rattle.name.proofs.Answers.{Read}
+use Rattle.name.specs.Name.{isLength, nameOf, spellingOf}
+use Rattle.name_writer.specs.Held.{spellingHeld}
+use Rattle.name_writer.specs.declared.Spelled.{Spelled}
+use Rattle.name_reader.proofs.Answers.{Read}
 use Rattle.name.proofs.OneSpelling.{name-valid}
 use Rattle.name.proofs.RoundTrip.{write-then-read}
 use Rattle.line.specs.Line.{shownName, shownHeld, lengthOf}

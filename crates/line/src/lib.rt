@@ -45,13 +45,13 @@ fn unreadable() -> Shown
 fn show(spelled: &[u8]) -> Shown
     ensures { λ r. ⌜ r ≡ shownHeld (shownName (nameOf (now (spelled .entry)))) ⌝ }
 {
-    let name = name::read(spelled);
+    let name = name_reader::read(spelled);
     let bytes = name.bytes;
     let outcome = name.outcome;
     match outcome {
         Outcome::Refused(_) => unreadable(),
         Outcome::Done(n) => {
-            let text = name::spelling(&bytes[..n]);
+            let text = name_writer::spelling(&bytes[..n]);
             let bytes = text.bytes;
             let outcome = text.outcome;
             Shown {

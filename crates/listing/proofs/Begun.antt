@@ -13,7 +13,7 @@ use Rattle.octets.specs.declared.Outcome.the-variants.{Done, Refused}
 use Rattle.report.specs.Listing.{listingBy, refusalOf}
 use Rattle.report.specs.Steps.{refusal}
 use Rattle.report.proofs.Cases.{done-fits}
-use Rattle.report.proofs.Input.{dropped}
+use Rattle.octets.proofs.Stores.{dropped}
 use Rattle.report.proofs.Whole.{whole, answered}
 
 -- `begin` found a room, left `last` in it and answered that n bytes are written

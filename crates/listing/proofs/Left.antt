@@ -11,12 +11,13 @@ use lib.ListN.{length, take, drop, length-append, length-drop}
 use lib.Seq.{take-at, drop-at, drop-drop}
 use Rattle.air.specs.Choices.{chosen}
 use Rattle.sheet.specs.Sheet.{sheetOf, numberOf}
-use Rattle.report.specs.Listing.{linesOf, linesBy, listingBy, refusalOf}
+use Rattle.name_list.specs.Lines.{linesOf}
+use Rattle.report.specs.Listing.{linesBy, listingBy, refusalOf}
 use Rattle.report.specs.Steps.{Part}
 use Rattle.report.proofs.Cases.{either}
-use Rattle.report.proofs.Input.{none-left}
+use Rattle.name_list.proofs.Lines.{none-left}
 use Rattle.report.proofs.Output.{lines-append}
-use Rattle.listing.specs.Program.{Next}
+use Rattle.listing_output.specs.Output.{Next}
 
 not-refused : (number : ℕ) (ls : List ℕ) (accepted long : Bool) → either number [] accepted long ≡ [] → (either number ls accepted long ≡ ls) × (long ≡ false)
 not-refused number ls true false e = (refl, refl)

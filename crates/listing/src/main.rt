@@ -1,10 +1,7 @@
 // The listing program: reads sheet.eas and the names on standard input, and writes the listing.
-mod input;
-mod output;
-
-use input::Input;
+use listing_input::Input;
+use listing_output::Written;
 use octets::Outcome;
-use output::Written;
 ghost use mathlib.Core.List.{[]};
 ghost use mathlib.Core.Path.{_≡_};
 ghost use lib.ListN.{length, take};
@@ -12,7 +9,8 @@ ghost use Prim.Native.Nat.{_<_, _≤_};
 ghost use Rattle.air.specs.Choices.{chosen};
 ghost use Rattle.report.specs.Listing.{listingBy, refusalOf};
 ghost use Rattle.sheet.specs.Index.{Indexed};
-ghost use Rattle.listing.specs.Program.{ToEnd, Reached};
+ghost use Rattle.listing_input.specs.Input.{ToEnd};
+ghost use Rattle.listing_output.specs.Output.{Reached};
 
 // The account of a run: its two inputs, and how far their listing is written.
 struct Account {
@@ -35,11 +33,11 @@ fn write_parts(
     ensures { λ r. ⌜ Reached (length (listingBy chosen (now (sheet .entry)) (now (list .entry)))) r ⌝ }
 {
     let mut start = 0;
-    let mut written = output::nothing();
+    let mut written = listing_output::nothing();
     while start < list.len() {
         let part = report::part(sheet, starts, heads, next, list, start, out);
         let n = part.len;
-        written = output::write_next(sheet, list, written, &out[..n]);
+        written = listing_output::write_next(sheet, list, written, &out[..n]);
         if written.failed() {
             return written;
         }
@@ -56,13 +54,13 @@ fn write_listing(sheet: &[u8], list: &[u8], out: &mut [u8]) -> Written
     let mut starts = distinct::no_links();
     let mut heads = distinct::no_heads();
     let mut next = distinct::no_links();
-    let nothing = output::nothing();
+    let nothing = listing_output::nothing();
     match report::begin(sheet, &mut starts, &mut heads, &mut next, list, out) {
         Outcome::Done(n) => {
             if n == 0 {
                 return write_parts(sheet, &starts, &heads, &next, list, out);
             }
-            output::write_next(sheet, list, nothing, &out[..n])
+            listing_output::write_next(sheet, list, nothing, &out[..n])
         }
         // never: the line of a refusal fits the room
         Outcome::Refused(_) => nothing,
@@ -76,8 +74,8 @@ fn run(sheet: &mut [u8], list: &mut [u8], out: &mut [u8]) -> Account
     ensures { λ r. ⌜ ToEnd (r .sheet) × ToEnd (r .list) ⌝ }
     ensures { λ r. ⌜ Reached (length (listingBy chosen (take (r .sheet .len) (now (sheet .exit))) (take (r .list .len) (now (list .exit))))) (r .written) ⌝ }
 {
-    let sheet_input = input::read_sheet(sheet);
-    let list_input = input::read_list(list);
+    let sheet_input = listing_input::read_sheet(sheet);
+    let list_input = listing_input::read_list(list);
     let n = sheet_input.len;
     let m = list_input.len;
     let written = write_listing(&sheet[..n], &list[..m], out);
@@ -89,8 +87,8 @@ fn run(sheet: &mut [u8], list: &mut [u8], out: &mut [u8]) -> Account
 }
 
 fn main() {
-    let mut sheet = input::room();
-    let mut list = input::room();
+    let mut sheet = listing_input::room();
+    let mut list = listing_input::room();
     let mut out = [0u8; 65536];
     run(&mut sheet, &mut list, &mut out);
 }

@@ -1,8 +1,4 @@
-mod Ranges
-mod Pieces
-mod Loop
-mod Judged
-mod Written
-pub mod Answers
+pub mod Ranges
+pub mod Written
 pub mod RoundTrip
 pub mod OneSpelling

@@ -2,11 +2,9 @@
 use mathlib.Core.Bool.{Bool, cond}
 use mathlib.Core.List.{List}
 use Prim.Native.Nat.{ℕ}
-use lib.ListN.{length, replicate}
-use Rattle.octets.specs.Room.{Text, refused, text, fitting, written, outcomeOf}
+use lib.ListN.{length}
+use Rattle.octets.specs.Room.{Text, refused, text, fitting}
 use Rattle.name.specs.Spelling.{within, Reading, wrong, bytes, reading, spelled}
-use Rattle.name.specs.declared.Name.{Name}
-use Rattle.name.specs.declared.Spelled.{Spelled}
 
 -- document 01, Names: the lengths that a name may have
 abbrev pub isLength : ℕ → Bool
@@ -24,11 +22,3 @@ nameOf s = judged (reading s)
 -- document 01, table, name and writing: what a name is written as in room for so many bytes; 8 by its raw length, then 14
 unfoldable pub spellingOf : List ℕ → ℕ → Text
 spellingOf name room = cond (isLength (length name)) (fitting room (spelled name)) (refused 8)
-
--- a name that is read stands at the start of an array of 40 zeros
-abbrev pub nameHeld : Text → Name
-nameHeld t = record { bytes = written t (replicate 40 0); outcome = outcomeOf t }
-
--- a written name stands at the start of an array of 120 zeros, which the longest one fills
-abbrev pub spellingHeld : Text → Spelled
-spellingHeld t = record { bytes = written t (replicate 120 0); outcome = outcomeOf t }

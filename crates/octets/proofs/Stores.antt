@@ -1,7 +1,7 @@
--- A run of stores behind a text that already stands at the start of a room.
+-- A run of stores behind a text that already stands at the start of a room, and what is left behind the end of a list.
 -- Assumes nothing.
-use mathlib.Core.List.{List, _++_}
-use mathlib.Core.Path.{_≡_, ap, _∙_, subst}
+use mathlib.Core.List.{List, [], _∷_, _++_}
+use mathlib.Core.Path.{_≡_, refl, ap, _∙_, subst}
 use Prim.Native.Nat.{ℕ, _+_, _≤_}
 use native.Mathlib.Omega.{arith}
 use lib.ListN.{length, drop, length-append, length-drop}
@@ -14,3 +14,10 @@ put-more t u z n e h =
     ∙ ap (λ (x : List ℕ). (x ++ u) ++ drop (n + length u) (t ++ drop n z)) (take-at t (drop n z) n e)
     ∙ ap (λ (x : List ℕ). (t ++ u) ++ x)
     (subst (λ (m : ℕ). drop (m + length u) (t ++ drop n z) ≡ drop (length u) (drop n z)) e (drop-append-add t (drop n z) (length u)) ∙ drop-drop (length u) n z)
+
+pub dropped : {A : Type 0} (n : ℕ) (l : List A) → length l ≤ n → drop n l ≡ []
+dropped n l h = nothing (drop n l) (omega (arith, length-drop n l))
+  where
+    nothing : {A : Type 0} (l : List A) → length l ≡ 0 → l ≡ []
+    nothing [] e = refl
+    nothing (x ∷ l) e = let f : ⊥ = omega arith in absurd f

@@ -31,7 +31,8 @@ use Rattle.bands.specs.Region.{regionOf}
 use Rattle.calculator.specs.Search.{locate, answerAt, searchBy}
 use Rattle.calculator.proofs.Demand3.{search-allowed}
 use Rattle.line.specs.Line.{line}
-use Rattle.report.specs.Listing.{linesOf, linesBy, listingBy, Lines, done, next, IsListing}
+use Rattle.name_list.specs.Lines.{linesOf}
+use Rattle.report.specs.Listing.{linesBy, listingBy, Lines, done, next, IsListing}
 
 -- an answer that holds h
 pub record Holder (h : Held) : Type 0 where

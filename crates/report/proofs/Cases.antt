@@ -14,7 +14,8 @@ use Rattle.octets.specs.declared.Outcome.{Outcome}
 use Rattle.octets.specs.declared.Outcome.the-variants.{Done}
 use Rattle.octets.specs.Room.{text, refused, fitting, outcomeOf}
 use Rattle.sheet.specs.Sheet.{sheetOf, numberOf}
-use Rattle.report.specs.Listing.{sheetWord, listWord, listingFor, linesOf, linesBy, listingBy, refusalOf}
+use Rattle.name_list.specs.Lines.{linesOf}
+use Rattle.report.specs.Listing.{sheetWord, listWord, listingFor, linesBy, listingBy, refusalOf}
 
 -- a listing by whether the sheet is accepted, and whether the list is too long
 abbrev pub either : ℕ → List ℕ → Bool → Bool → List ℕ

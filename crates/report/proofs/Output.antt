@@ -1,22 +1,20 @@
 -- The lines that a part has written so far.
 -- Assumes nothing.
-use mathlib.Core.Bool.{Bool, true, cond}
 use mathlib.Core.List.{List, [], _∷_, _++_, append-assoc, append-nil}
 use mathlib.Core.Path.{_≡_, refl, sym, ap, _∙_, subst}
-use Prim.Native.Nat.{ℕ, _+_, _-_, _≤_}
+use Prim.Native.Nat.{ℕ, _+_, _≤_}
 use native.Mathlib.Omega.{arith}
 use lib.ListN.{length, take, drop, length-append, length-drop}
-use lib.Seq.{take-at, take-all, drop-append-add, drop-drop}
-use lib.Dec.{leb}
-use borrow.Author.Tests.{le-leb}
+use lib.Seq.{take-at, drop-append-add, drop-drop}
 use Rattle.air.specs.Choices.{chosen}
 use Rattle.calculator.specs.Search.{searchBy}
 use Rattle.line.specs.Line.{line}
 use Rattle.line.specs.declared.Line.{Line}
-use Rattle.octets.specs.Room.{text, refused, fitting, written}
-use Rattle.report.specs.Listing.{linesOf, linesBy}
+use Rattle.octets.specs.Room.{text, written}
+use Rattle.name_list.specs.Lines.{linesOf}
+use Rattle.report.specs.Listing.{linesBy}
 use Rattle.report.specs.Steps.{NextLine, Part}
-use Rattle.report.proofs.Input.{dropped, none-left}
+use Rattle.name_list.proofs.Lines.{none-left}
 
 -- the line of one name
 abbrev pub one : List ℕ → List ℕ → List ℕ
@@ -113,23 +111,3 @@ pub part-whole : (sheet list room out : List ℕ) (next len : ℕ) → Part shee
 part-whole sheet list room out next len p h =
     let e : linesOf list ≡ p .done = p .names ∙ ap (λ (ns : List (List ℕ)). p .done ++ ns) (none-left list next h) ∙ append-nil (p .done) in
     p .holds ∙ ap (λ (ns : List (List ℕ)). written (text (linesBy chosen sheet ns)) room) (sym e)
-
--- a text that is put behind a place: the middle that is lent is the rest of the room
-pub appended : (out t last : List ℕ) (at n : ℕ)
-    → at + n ≤ length out
-    → length t ≡ n
-    → last ≡ written (fitting (length (take (length out - at) (drop at out))) t) (take (length out - at) (drop at out))
-    → take at out ++ (last ++ drop (length out - at) (drop at out)) ≡ take at out ++ (t ++ drop (at + n) out)
-appended out t last at n h l e =
-    let k : ℕ = length out - at in
-    let d : length (drop at out) ≡ k = length-drop at out in
-    let m : take k (drop at out) ≡ drop at out = take-all k (drop at out) (omega arith) in
-    let p : drop k (drop at out) ≡ [] = dropped k (drop at out) (omega arith) in
-    let f : leb (length t) (length (drop at out)) ≡ true = le-leb (length t) (length (drop at out)) (omega arith) in
-    let w : last ≡ t ++ drop (length t) (drop at out) =
-    e
-    ∙ ap (λ (x : List ℕ). written (fitting (length x) t) x) m
-    ∙ ap (λ (b : Bool). written (cond b (text t) (refused 14)) (drop at out)) f in
-    let q : drop (length t) (drop at out) ≡ drop (at + n) out = ap (λ (i : ℕ). drop i (drop at out)) l ∙ drop-drop n at out in
-    ap (λ (x : List ℕ). take at out ++ (last ++ x)) p
-    ∙ ap (λ (x : List ℕ). take at out ++ x) (append-nil last ∙ w ∙ ap (λ (x : List ℕ). t ++ x) q)

@@ -11,16 +11,7 @@ use Rattle.air.specs.Choices.{Choices}
 use Rattle.sheet.specs.Sheet.{sheetOf, numberOf}
 use Rattle.calculator.specs.Search.{IsSearch, searchBy}
 use Rattle.line.specs.Line.{line, refusalRest}
-
--- the names of the input, one a line; `before` is what the present line has so far. The last line needs no newline, and an
--- empty one counts only with it
-unfoldable pub linesFrom : List ℕ → List ℕ → List (List ℕ)
-linesFrom [] [] = []
-linesFrom (b ∷ bs) [] = (b ∷ bs) ∷ []
-linesFrom before (x ∷ xs) = cond (eqb x 10) (before ∷ linesFrom [] xs) (linesFrom (before ++ (x ∷ [])) xs)
-
-abbrev pub linesOf : List ℕ → List (List ℕ)
-linesOf input = linesFrom [] input
+use Rattle.name_list.specs.Lines.{linesOf}
 
 -- what a program with these choices writes for spelled names, a line each
 unfoldable pub linesBy : Choices → List ℕ → List (List ℕ) → List ℕ

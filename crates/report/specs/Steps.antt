@@ -1,23 +1,17 @@
 -- The steps of the listing: the next line of the input, the lines that fit a room, and all that is written.
 use mathlib.Core.List.{List, [], _∷_, _++_}
 use mathlib.Core.Path.{_≡_}
-use Prim.Native.Nat.{ℕ, _+_, _-_, _≤_, _<_}
+use Prim.Native.Nat.{ℕ, _+_, _≤_, _<_}
 use lib.ListN.{length, take, drop}
 use Rattle.air.specs.Choices.{chosen}
 use Rattle.calculator.specs.Search.{searchBy}
 use Rattle.line.specs.declared.Line.{Line}
 use Rattle.line.specs.Line.{line, lineHeld}
-use Rattle.octets.specs.Bytes.{part}
 use Rattle.octets.specs.Room.{text, written}
 use Rattle.octets.specs.declared.Outcome.{Outcome}
 use Rattle.octets.specs.declared.Outcome.the-variants.{Done}
-use Rattle.report.specs.Listing.{linesOf, linesBy}
-
--- the line that starts at a place ends before `end`, and the others start behind it
-pub record FirstLine (list : List ℕ) (start end : ℕ) : Type 0 where
-  pub from : start ≤ end
-  pub inside : end ≤ length list
-  pub first : linesOf (drop start list) ≡ part list start (end - start) ∷ linesOf (drop (end + 1) list)
+use Rattle.name_list.specs.Lines.{linesOf}
+use Rattle.report.specs.Listing.{linesBy}
 
 -- the line of the name that starts at a place, in its 192 bytes; the other names start at `next`
 pub record NextLine (sheet list : List ℕ) (start next : ℕ) (built : Line) : Type 0 where

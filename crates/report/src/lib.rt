@@ -1,18 +1,17 @@
 // A line, and the listing in parts, written to lent room.
-use air::Answer;
 use line::Line;
 use octets::Outcome;
-ghost use mathlib.Core.List.{_++_};
 ghost use mathlib.Core.Path.{_≡_};
-ghost use Prim.Native.Nat.{_+_, _<_, _≤_};
-ghost use lib.ListN.{length, take, drop};
+ghost use Prim.Native.Nat.{_<_, _≤_};
+ghost use lib.ListN.{length, drop};
 ghost use Rattle.air.specs.Choices.{chosen};
 ghost use Rattle.calculator.specs.Search.{searchBy};
-ghost use Rattle.line.specs.Line.{line, refusalRest, lineHeld};
+ghost use Rattle.line.specs.Line.{line, lineHeld};
 ghost use Rattle.octets.specs.Room.{fitting, written, outcomeOf};
 ghost use Rattle.sheet.specs.Index.{Blank, Indexed};
-ghost use Rattle.report.specs.Listing.{linesOf, linesBy, refusalOf};
-ghost use Rattle.report.specs.Steps.{FirstLine, NextLine, Part};
+ghost use Rattle.name_list.specs.Lines.{linesOf};
+ghost use Rattle.report.specs.Listing.{linesBy, refusalOf};
+ghost use Rattle.report.specs.Steps.{NextLine, Part};
 
 // The line of a name of the list, and the place of the next name.
 pub struct Built {
@@ -26,24 +25,13 @@ pub struct Progress {
     pub len: usize,
 }
 
-// Copies a line to the start of lent room that is long enough for it.
-fn put_line(line: Line, out: &mut [u8]) -> Outcome
-    requires { ⌜ line .len ≤ length (line .bytes) ⌝ }
-    ensures { λ r. ⌜ r ≡ outcomeOf (fitting (length (now (out .entry))) (take (line .len) (line .bytes))) ⌝ }
-    ensures { λ _. ⌜ now (out .exit) ≡ written (fitting (length (now (out .entry))) (take (line .len) (line .bytes))) (now (out .entry)) ⌝ }
-{
-    let n = line.len;
-    let bytes = line.bytes;
-    octets::put(&bytes[..n], out)
-}
-
 // The line for a spelled name, in lent room.
 pub fn line(sheet: &[u8], spelled: &[u8], out: &mut [u8]) -> Outcome
     ensures { λ r. ⌜ r ≡ outcomeOf (fitting (length (now (out .entry))) (line (now (spelled .entry)) (searchBy chosen (now (sheet .entry)) (now (spelled .entry))))) ⌝ }
     ensures { λ _. ⌜ now (out .exit) ≡ written (fitting (length (now (out .entry))) (line (now (spelled .entry)) (searchBy chosen (now (sheet .entry)) (now (spelled .entry))))) (now (out .entry)) ⌝ }
 {
     let answer = calculator::search(sheet, spelled);
-    put_line(line::line_of(spelled, answer), out)
+    line_room::put_line(line::line_of(spelled, answer), out)
 }
 
 // The line for a spelled name under a sheet that is indexed.
@@ -64,21 +52,6 @@ fn line_in(
     )
 }
 
-// Where the line that starts at a place ends.
-fn line_end(list: &[u8], start: usize) -> usize
-    requires { ⌜ start < length (now list) ⌝ }
-    ensures { λ r. ⌜ FirstLine (now (list .entry)) start r ⌝ }
-{
-    let mut end = start;
-    while end < list.len() {
-        if list[end] == b'\n' {
-            return end;
-        }
-        end += 1;
-    }
-    end
-}
-
 // The line of the name that starts at a place of the list, under a sheet that is indexed.
 pub fn next_line(
     sheet: &[u8],
@@ -91,32 +64,10 @@ pub fn next_line(
     requires { ⌜ Indexed (now sheet) (now starts) (now heads) (now next) × (start < length (now list)) ⌝ }
     ensures { λ r. ⌜ NextLine (now (sheet .entry)) (now (list .entry)) start (r .next) (r .line) ⌝ }
 {
-    let end = line_end(list, start);
+    let end = name_list::line_end(list, start);
     let line = line_in(sheet, starts, heads, next, &list[start..end]);
     let after = end + 1;
     Built { line, next: after }
-}
-
-// Copies a line to a place of a room that has space for it, and gives the place behind it.
-fn append(line: Line, out: &mut [u8], at: usize) -> usize
-    requires { ⌜ (line .len ≤ length (line .bytes)) × (at + line .len ≤ length (now out)) ⌝ }
-    ensures { λ r. ⌜ r ≡ at + line .len ⌝ }
-    ensures { λ _. ⌜ now (out .exit) ≡ take at (now (out .entry)) ++ (take (line .len) (line .bytes) ++ drop (at + line .len) (now (out .entry))) ⌝ }
-{
-    let n = line.len;
-    let bytes = line.bytes;
-    octets::put(&bytes[..n], &mut out[at..]);
-    at + n
-}
-
-// The line that refuses a whole sheet or list, in lent room.
-fn put_refused(word: &[u8], number: u32, out: &mut [u8]) -> Outcome
-    requires { ⌜ length (now word) ≤ 120 ⌝ }
-    ensures { λ _. ⌜ length (now (word .entry) ++ refusalRest number) ≤ length (now (word .entry)) + 66 ⌝ }
-    ensures { λ r. ⌜ r ≡ outcomeOf (fitting (length (now (out .entry))) (now (word .entry) ++ refusalRest number)) ⌝ }
-    ensures { λ _. ⌜ now (out .exit) ≡ written (fitting (length (now (out .entry))) (now (word .entry) ++ refusalRest number)) (now (out .entry)) ⌝ }
-{
-    put_line(line::build(word, Answer::Refused(number)), out)
 }
 
 // Begins a listing: indexes the sheet, and writes the line of a refused sheet or list to lent room, for which 71 bytes are enough.
@@ -137,10 +88,10 @@ pub fn begin(
 {
     let number = sheet::index(sheet, starts, heads, next);
     if number != 0 {
-        return put_refused(b"sheet", number, out);
+        return line_room::put_refused(b"sheet", number, out);
     }
     if 65536 < list.len() {
-        return put_refused(b"list", 15, out);
+        return line_room::put_refused(b"list", 15, out);
     }
     Outcome::Done(0)
 }
@@ -172,7 +123,7 @@ pub fn part(
                 len: at,
             };
         }
-        at = append(line, out, at);
+        at = line_room::append(line, out, at);
         from = built.next;
     }
     Progress {

@@ -5,7 +5,8 @@ ghost use lib.ListN.{length};
 ghost use Rattle.air.specs.Choices.{chosen};
 ghost use Rattle.octets.specs.Room.{fitting, written, outcomeOf};
 ghost use Rattle.sheet.specs.Index.{Indexed};
-ghost use Rattle.report.specs.Listing.{linesOf, linesBy, listingBy};
+ghost use Rattle.name_list.specs.Lines.{linesOf};
+ghost use Rattle.report.specs.Listing.{linesBy, listingBy};
 
 // The length of all lines of a list under a sheet that is indexed, or 14 where a room of so many bytes is too short for them.
 fn measure(

@@ -3,7 +3,7 @@ use mathlib.Core.Path.{_≡_, sym, ap, _∙_}
 use lib.ListN.{length}
 use lib.Seq.{length-take-le}
 use Rattle.octets.specs.Room.{Text, outcomeOf, written}
-use Rattle.name.proofs.Answers.{Read, read-done, read-refused}
+use Rattle.name_reader.proofs.Answers.{Read, read-done, read-refused}
 use Rattle.flat.specs.Flat.{flatText}
 use Rattle.airstate.specs.Texts.{fitted}
 use borrow.Author.Needs.{needs}

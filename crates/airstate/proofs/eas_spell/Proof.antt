@@ -7,7 +7,7 @@ use Rattle.airstate.proofs.eas_spell.Tie as tie
 use Rattle.airstate.proofs.eas_spell.Reads as reads
 use Rattle.airstate.proofs.eas_spell.Lts as lts
 use Rattle.flat.proofs.flatten_text.Reads as flatten-text-reads
-use Rattle.name.proofs.spell.Reads as spell-reads
+use Rattle.name_writer.proofs.spell.Reads as spell-reads
 
 spell-requires : tie.Need-spell-requires
 spell-requires c κs = search needs

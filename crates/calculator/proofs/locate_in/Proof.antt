@@ -1,14 +1,14 @@
 -- `calculator::locate_in` reads the spelling and finds the name.
 use mathlib.Core.Path.{_≡_, sym, _∙_}
 use lib.Seq.{length-take-le}
-use Rattle.name.proofs.Answers.{Read, read-done, read-refused}
+use Rattle.name_reader.proofs.Answers.{Read, read-done, read-refused}
 use Rattle.calculator.proofs.Located.{name-refused, name-read}
 use borrow.Author.Needs.{needs}
 use Rattle.calculator.proofs.locate_in.Statement.{statement}
 use Rattle.calculator.proofs.locate_in.Tie as tie
 use Rattle.calculator.proofs.locate_in.Reads as reads
 use Rattle.calculator.proofs.locate_in.Lts as lts
-use Rattle.name.proofs.read.Reads as read-reads
+use Rattle.name_reader.proofs.read.Reads as read-reads
 use Rattle.sheet_search.proofs.find.Reads as find-reads
 
 whole : (c : tie.After-known-told2) → let s = c .before .before .before .before .before .before .before in Read (s .args .spelled .now) (c .before .before .before .before .read .result .bytes) (c .before .outcome2 .given .0 .0)

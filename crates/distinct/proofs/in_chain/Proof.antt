@@ -1,6 +1,6 @@
 -- `distinct::in_chain` meets its contract: once no record from the link k on has the name, none from the first link on has it.
 -- A link leads to an earlier record, so the links fall. Assumes nothing.
-use mathlib.Core.Path.{_≡_}
+use mathlib.Core.Path.{_≡_, sym, _∙_}
 use Prim.Native.Nat.{suc, _≤_, _-_}
 use Rattle.distinct.specs.Chain.{Missed, met, missed}
 use Rattle.distinct.proofs.Walk.{missed-none, missed-before}
@@ -40,9 +40,11 @@ has-name-requires c κs =
 
 returns : tie.Need-returns Inv-loop μ-loop
 returns c =
-    let k = c .before .before .before .before .before .loop .k in
-    let e : k ≡ suc (k - 1) = omega arith in
-    rw e (met {j = k - 1} (omega arith) (cc))
+    let l = c .before .before .before .before .before in
+    let k = l .loop .k in
+    let e : k ≡ suc (k - 1) = omega (arith, l .loop .inv .0) in
+    let h = c .before .before in
+    rw e (met {j = k - 1} (omega (arith, l .loop .inv .0)) (sym (rw (h .wide162 .ensures .0) at (c .before .has-name .ensures)) ∙ c .if1 .taken))
 
 mul-wide16-2 : tie.Need-mul-wide16-2 Inv-loop μ-loop
 mul-wide16-2 c = search needs
@@ -62,10 +64,12 @@ loop-again : tie.Need-loop-again Inv-loop μ-loop
 loop-again c =
     let l = c .before .before .before .before .before .before .before in
     let b = l .before .before .before .before in
+    let h = c .before .before .before in
     let g = b .args in (
       omega (arith, b .pre .2 (l .loop .k - 1)),
       λ m. l .loop .inv .1
-          (missed-before (g .s .now) (g .starts .now) (g .next .now) (g .name .now) (l .loop .k) (omega arith) (cc) (rw (c .wide163 .ensures .0) at m)),
+          (missed-before (g .s .now) (g .starts .now) (g .next .now) (g .name .now) (l .loop .k) (omega arith)
+          (sym (rw (h .before .wide162 .ensures .0) at (h .has-name .ensures)) ∙ c .before .before .if1 .left) (rw (c .wide163 .ensures .0) at m)),
     )
 
 returns-2 : tie.Need-returns-2 Inv-loop μ-loop

@@ -1,7 +1,9 @@
 -- `distinct::repeats` meets its contract: the loop keeps the table of the records passed, whose names differ. Assumes nothing.
-use mathlib.Core.Path.{_≡_, sym, _∙_}
+use mathlib.Core.Bool.{true≢false}
+use mathlib.Core.List.{List}
+use mathlib.Core.Path.{_≡_, sym, ap, _∙_}
 use Prim.Native.Nat.{ℕ, _≤_, _-_}
-use Rattle.distinct.specs.Chain.{nameOf, Table}
+use Rattle.distinct.specs.Chain.{nameOf, hasName, Table}
 use Rattle.distinct.proofs.Pairs.{Apart, apart-repeats, found-repeats}
 use Rattle.distinct.proofs.Walk.{walked-missed, walked-met}
 use Rattle.distinct.proofs.Table.{table-start, table-next, apart-next}
@@ -57,13 +59,14 @@ returns c =
     let a = c .before .before .before .before .before in
     let l = a .before .before .before .before in
     let g = l .before .before .args in
+    let n : a .name-at .result .now ≡ nameOf (g .s .now) (g .starts .now) (l .loop .i) = a .name-at .ensures ∙ rw (a .before .wide16 .ensures .0) in
     let w = walked-met (g .s .now) (g .starts .now) (l .loop .next) (a .name-at .result .now) (c .before .in-chain .ensures) (c .if1 .taken) in (
       sym (found-repeats (g .s .now) (g .starts .now) (g .n) (w .0) (l .loop .i)
           (omega arith)
           (omega (arith, w .1, l .loop .inv .1 .low (c .before .before .before .before .hash-of .result)))
           (omega arith)
-          (cc (w .2, a .name-at .ensures, a .before .wide16 .ensures .0))),
-      λ e. let z : _≡_ {A = ℕ} 0 1 = cc in absurd (omega arith),
+          (sym (ap (λ (x : List ℕ). hasName (g .s .now) (g .starts .now) x (w .0)) n) ∙ w .2)),
+      λ e. absurd (true≢false e),
     )
 
 mul-next : tie.Need-mul-next Inv-loop μ-loop

@@ -11,7 +11,7 @@ use mir.Syntax.{w64}
 use mir.Val.{SFits, toZ, ofZ}
 use Rattle.integer.specs.Laws.{abs-+}
 use Rattle.quotient.specs.Range.{In}
-use Rattle.fit.specs.Fit.{bicubic}
+use Rattle.bicubic.specs.Bicubic.{bicubic}
 use Rattle.integer.proofs.Machine.{back, back-ok, fits64}
 use Rattle.quotient.proofs.Machine.{in-back, in-ok}
 use Rattle.fit.proofs.Scaling.{entropy-rise-size}

@@ -5,7 +5,8 @@ use mir.Syntax.{w64}
 use mir.Val.{toZ, ofZ}
 use Rattle.weight.specs.Choice.{weightOf}
 use Rattle.quotient.specs.Range.{In}
-use Rattle.fit.specs.Fit.{bicubic, exponent, joint}
+use Rattle.bicubic.specs.Bicubic.{bicubic, exponent}
+use Rattle.fit.specs.Fit.{joint}
 use Rattle.fit.specs.Edge.{Workable}
 use Rattle.integer.proofs.Machine.{back, back-ok}
 use Rattle.quotient.proofs.Machine.{in-back, in-ok}

@@ -2,7 +2,7 @@
 use mathlib.Core.Path.{sym, ap, _∙_}
 use lib.Seq.{length-take-le}
 use Rattle.octets.specs.Room.{Text}
-use Rattle.name.proofs.Answers.{read-done, read-refused}
+use Rattle.name_reader.proofs.Answers.{read-done, read-refused}
 use Rattle.line.specs.Line.{shownName, shownHeld}
 use Rattle.line.proofs.Names.{show-done}
 use borrow.Author.Needs.{needs}

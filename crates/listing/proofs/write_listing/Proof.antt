@@ -6,7 +6,7 @@ use native.Mathlib.Omega.{arith}
 use lib.ListN.{length, take}
 use Rattle.octets.specs.declared.Outcome.the-variants.{Done}
 use Rattle.listing.proofs.Begun.{Begun, never-refused, begun-inside, begun-size, begun-empty, begun-whole}
-use Rattle.listing.proofs.Next.{next-whole}
+use Rattle.listing_output.proofs.Next.{next-whole}
 use borrow.Author.Needs.{needs}
 use Rattle.listing.proofs.write_listing.Statement.{statement}
 use Rattle.listing.proofs.write_listing.Tie as tie

@@ -8,7 +8,8 @@ use Rattle.octets.specs.Room.{Text, fitting, outcomeOf, written}
 use Rattle.octets.specs.declared.Outcome.{Outcome}
 use Rattle.octets.specs.declared.Outcome.the-variants.{Done, Refused}
 use Rattle.octets.proofs.Held.{held-refused}
-use Rattle.report.specs.Listing.{linesOf, linesBy}
+use Rattle.name_list.specs.Lines.{linesOf}
+use Rattle.report.specs.Listing.{linesBy}
 use Rattle.report.specs.Steps.{Part}
 use Rattle.report.proofs.Cases.{done-fits}
 use Rattle.report.proofs.Output.{left, part-whole}

@@ -1,0 +1,2 @@
+pub mod Bicubic
+pub mod Exact

@@ -1,0 +1,4 @@
+mod Pieces
+mod Loop
+mod Judged
+pub mod Answers
