@@ -13,8 +13,8 @@ use Rattle.calculator.proofs.Demand3.{search-allowed}
 use Rattle.line.specs.Line.{line}
 use Rattle.report.specs.Listing.{listingBy}
 use Rattle.report.proofs.Allowed.{state, searched, listing-allowed}
-use Rattle.flat.specs.declared.CText.{CText}
-use Rattle.flat.specs.Flat.{flatText}
+use Rattle.flat_parts.specs.declared.CText.{CText}
+use Rattle.flat_parts.specs.Flat.{flatText}
 use Rattle.airstate.specs.Texts.{lineIn, listingIn}
 use Rattle.airstate.specs.Allowed.{MadeOf, IsFlatLine, IsFlatListing}
 

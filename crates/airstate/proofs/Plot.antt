@@ -16,7 +16,7 @@ use Rattle.drawable.proofs.Answers.{answer-shown}
 use Rattle.sheet_search.specs.declared.Lookup.{Lookup}
 use Rattle.sheet_search.specs.declared.Lookup.the-variants.{Hit, Miss}
 use Rattle.calculator.specs.Search.{locate, answerAt, searchBy}
-use Rattle.flat.specs.Flat.{flatMark}
+use Rattle.flat_parts.specs.Flat.{flatMark}
 use Rattle.flat.specs.Back.{bit, heldIn, unjoined}
 use Rattle.flat.proofs.Back.{flat-keeps-all}
 use Rattle.airstate.specs.Plot.{Points, PlotExact}

@@ -11,9 +11,10 @@ use Rattle.calculator.specs.Search.{IsSearch}
 use Rattle.line.specs.Line.{line}
 use Rattle.report.specs.Listing.{IsListing}
 use Rattle.flat.specs.declared.CAnswer.{CAnswer}
-use Rattle.flat.specs.declared.CMark.{CMark}
-use Rattle.flat.specs.declared.CText.{CText}
-use Rattle.flat.specs.Flat.{flat, flatMark, flatText}
+use Rattle.flat_parts.specs.declared.CMark.{CMark}
+use Rattle.flat_parts.specs.declared.CText.{CText}
+use Rattle.flat.specs.Flat.{flat}
+use Rattle.flat_parts.specs.Flat.{flatMark, flatText}
 
 -- x is made of something that is allowed
 pub record MadeOf {S A : Type 0} (Allowed : S → Type 0) (make : S → A) (x : A) : Type 0 where

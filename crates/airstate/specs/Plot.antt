@@ -8,8 +8,9 @@ use Rattle.air.specs.Choices.{chosen}
 use Rattle.mark.specs.Mark.{markOf, shownValue, Exactly}
 use Rattle.calculator.specs.Search.{searchBy}
 use Rattle.flat.specs.declared.CAnswer.{CAnswer}
-use Rattle.flat.specs.declared.CMark.{CMark}
-use Rattle.flat.specs.Flat.{flat, flatMark}
+use Rattle.flat_parts.specs.declared.CMark.{CMark}
+use Rattle.flat.specs.Flat.{flat}
+use Rattle.flat_parts.specs.Flat.{flatMark}
 use Rattle.flat.specs.Back.{bit}
 
 -- a point: across is exactly Y increased by 7,000,000, up is exactly the value

@@ -1,10 +1,9 @@
 // The C interface: thin entries over the proved crates. No entry keeps state, and none asks anything of its caller.
 use air::Answer;
 use flat::CAnswer;
-use flat::CMark;
-use flat::CRecord;
-use flat::CText;
-use octets::Outcome;
+use flat_parts::CMark;
+use flat_parts::CRecord;
+use flat_parts::CText;
 ghost use mathlib.Core.Path.{_≡_};
 ghost use lib.ListN.{length};
 ghost use Rattle.octets.specs.Room.{written, outcomeOf};
@@ -15,9 +14,11 @@ ghost use Rattle.air.specs.Choices.{chosen};
 ghost use Rattle.air.specs.State.{answerBy};
 ghost use Rattle.mark.specs.Mark.{markOf};
 ghost use Rattle.calculator.specs.Search.{locate, searchBy};
-ghost use Rattle.flat.specs.Flat.{flat, flatFound, flatText, flatMark};
+ghost use Rattle.flat.specs.Flat.{flat};
+ghost use Rattle.flat_parts.specs.Flat.{flatFound, flatText, flatMark};
 ghost use Rattle.airstate.specs.Allowed.{IsFlatSearch, IsFlatAnswer, IsFlatMark, IsFlatLine, IsFlatListing};
-ghost use Rattle.airstate.specs.Texts.{lineIn, listingIn, readIn};
+ghost use Rattle.name_room.specs.Read.{readIn};
+ghost use Rattle.airstate.specs.Texts.{lineIn, listingIn};
 
 // The sheet's number: 0, 1 to 6, 16.
 #[no_mangle]
@@ -32,7 +33,7 @@ pub extern "C" fn eas_check(sheet: &[u8]) -> u32
 pub extern "C" fn eas_find(sheet: &[u8], spelled: &[u8]) -> CRecord
     ensures { λ r. ⌜ r ≡ flatFound (locate (now (sheet .entry)) (now (spelled .entry))) ⌝ }
 {
-    flat::flatten_found(calculator::locate(sheet, spelled))
+    flat_parts::flatten_found(calculator::locate(sheet, spelled))
 }
 
 // A record by its number, from 0, and where its name stands.
@@ -40,7 +41,7 @@ pub extern "C" fn eas_find(sheet: &[u8], spelled: &[u8]) -> CRecord
 pub extern "C" fn eas_record_at(sheet: &[u8], i: usize) -> CRecord
     ensures { λ r. ⌜ r ≡ flatFound (recordOf (now (sheet .entry)) i) ⌝ }
 {
-    flat::flatten_found(sheet_walk::record_at(sheet, i))
+    flat_parts::flatten_found(sheet_walk::record_at(sheet, i))
 }
 
 // The answer for a spelled name. Demand 3 of it is `FlatDemand3` (specs/Demand3).
@@ -70,7 +71,7 @@ pub extern "C" fn eas_plot(sheet: &[u8], spelled: &[u8]) -> CMark
     ensures { λ r. ⌜ r ≡ flatMark (markOf (searchBy chosen (now (sheet .entry)) (now (spelled .entry)))) ⌝ }
     ensures { λ r. ⌜ IsFlatMark (now (sheet .entry)) (now (spelled .entry)) r ⌝ }
 {
-    flat::flatten_mark(mark::mark_of(calculator::search(sheet, spelled)))
+    flat_parts::flatten_mark(mark::mark_of(calculator::search(sheet, spelled)))
 }
 
 // The listing line of a spelled name, in lent room.
@@ -80,7 +81,7 @@ pub extern "C" fn eas_line(sheet: &[u8], spelled: &[u8], out: &mut [u8]) -> CTex
     ensures { λ _. ⌜ now (out .exit) ≡ written (lineIn (length (now (out .entry))) (now (sheet .entry)) (now (spelled .entry))) (now (out .entry)) ⌝ }
     ensures { λ r. ⌜ IsFlatLine (now (sheet .entry)) (now (spelled .entry)) (now (out .entry)) (now (out .exit)) r ⌝ }
 {
-    flat::flatten_text(report::line(sheet, spelled, out))
+    flat_parts::flatten_text(report::line(sheet, spelled, out))
 }
 
 // The whole listing of spelled names, one a line, in lent room.
@@ -90,7 +91,7 @@ pub extern "C" fn eas_list(sheet: &[u8], names: &[u8], out: &mut [u8]) -> CText
     ensures { λ _. ⌜ now (out .exit) ≡ written (listingIn (length (now (out .entry))) (now (sheet .entry)) (now (names .entry))) (now (out .entry)) ⌝ }
     ensures { λ r. ⌜ IsFlatListing (now (sheet .entry)) (now (names .entry)) (now (out .entry)) (now (out .exit)) r ⌝ }
 {
-    flat::flatten_text(run_list::listing(sheet, names, out))
+    flat_parts::flatten_text(run_list::listing(sheet, names, out))
 }
 
 // Spells a raw name into lent room.
@@ -99,7 +100,7 @@ pub extern "C" fn eas_spell(name: &[u8], out: &mut [u8]) -> CText
     ensures { λ r. ⌜ r ≡ flatText (outcomeOf (spellingOf (now (name .entry)) (length (now (out .entry))))) ⌝ }
     ensures { λ _. ⌜ now (out .exit) ≡ written (spellingOf (now (name .entry)) (length (now (out .entry)))) (now (out .entry)) ⌝ }
 {
-    flat::flatten_text(name_writer::spell(name, out))
+    flat_parts::flatten_text(name_writer::spell(name, out))
 }
 
 // Reads a spelling into lent room.
@@ -108,11 +109,5 @@ pub extern "C" fn eas_read(spelled: &[u8], out: &mut [u8]) -> CText
     ensures { λ r. ⌜ r ≡ flatText (outcomeOf (readIn (length (now (out .entry))) (now (spelled .entry)))) ⌝ }
     ensures { λ _. ⌜ now (out .exit) ≡ written (readIn (length (now (out .entry))) (now (spelled .entry))) (now (out .entry)) ⌝ }
 {
-    let read = name_reader::read(spelled);
-    let bytes = read.bytes;
-    let outcome = read.outcome;
-    match outcome {
-        Outcome::Refused(number) => CText { number, length: 0 },
-        Outcome::Done(n) => flat::flatten_text(octets::put(&bytes[..n], out)),
-    }
+    flat_parts::flatten_text(name_room::read(spelled, out))
 }

@@ -1,4 +1,4 @@
-pub mod Pins
+pub mod BelowZero
 pub mod Weighted
 pub mod Distance
 pub mod Scaling

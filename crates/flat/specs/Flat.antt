@@ -1,13 +1,8 @@
--- What C gets: each answer as flat numbers, 0 where nothing is carried.
+-- What C gets of an answer: flat numbers, 0 where nothing is carried.
 use mathlib.Core.Bool.{Bool, cond}
 use mathlib.Core.Option.{Option, none, some}
 use Prim.Native.Nat.{ℕ, _+_}
 use lib.IntN.{ℤ, pos}
-use lib.Ieee.{binary64, ofInt}
-use Rattle.octets.specs.declared.Outcome.{Outcome}
-use Rattle.octets.specs.declared.Outcome.the-variants.{Done, Refused}
-use Rattle.sheet_search.specs.declared.Lookup.{Lookup}
-use Rattle.sheet_search.specs.declared.Lookup.the-variants.{Hit, Miss}
 use Rattle.air.specs.declared.Logs.{Logs}
 use Rattle.fit.specs.declared.Edge.{Edge}
 use Rattle.air.specs.declared.Edges.{Edges}
@@ -15,14 +10,9 @@ use Rattle.air.specs.declared.Edges.the-variants.{Unfitted, One, Two}
 use Rattle.air.specs.declared.Ends.{Ends}
 use Rattle.air.specs.declared.Ends.the-variants.{Unjoined, Both}
 use Rattle.air.specs.Held.{Held}
-use Rattle.mark.specs.declared.Mark.{Mark}
-use Rattle.mark.specs.declared.Mark.the-variants.{At, Blank}
 use Rattle.flat.specs.declared.CEdge.{CEdge}
 use Rattle.flat.specs.declared.CEdges.{CEdges}
 use Rattle.flat.specs.declared.CAnswer.{CAnswer}
-use Rattle.flat.specs.declared.CRecord.{CRecord}
-use Rattle.flat.specs.declared.CText.{CText}
-use Rattle.flat.specs.declared.CMark.{CMark}
 
 -- the bits of `carries`: 1 for y and z, 2 for x, 4 for the low edge, 8 for the high one, 16 for the value
 abbrev pub logBits : Option Logs → ℕ
@@ -103,18 +93,3 @@ assembled n c l e bit v =
       low = e .low;
       high = e .high;
     }
-
--- a found record, with the part of the sheet that holds its name as start and length
-unfoldable pub flatFound : Lookup → CRecord
-flatFound (Miss n) = record { number = n; kind = 0; first = 0; second = 0; start = 0; length = 0 }
-flatFound (Hit r) = record { number = 0; kind = r .kind; first = r .first; second = r .second; start = r .start; length = r .len }
-
--- a text's length, or the number of its refusal
-unfoldable pub flatText : Outcome → CText
-flatText (Refused n) = record { number = n; length = 0 }
-flatText (Done n) = record { number = 0; length = n }
-
--- a point, or a blank at the origin
-unfoldable pub flatMark : Mark → CMark
-flatMark (At p) = record { blank = 0; point = record { across = p .across; up = p .up } }
-flatMark (Blank n) = record { blank = n; point = record { across = ofInt binary64 (pos 0); up = ofInt binary64 (pos 0) } }

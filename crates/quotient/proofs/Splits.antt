@@ -34,5 +34,7 @@ divides-over n m A B a b ha hb hn hm h =
 pub short-splits : {a b : ℤ} → natAbs a ≤ 8796093022207 → In 25 b → Splits a b (pos 64)
 short-splits h k = splits 64 8796093022207 (2 ^ 25) h (le-of-lt (k .size)) (lit< tt) (lit< tt) (lit< tt) (lit< tt)
 
-pub short-divides : (a b : ℤ) → natAbs a ≤ 8796093022207 → In 25 b → Divides (shrZ (a *ℤ b) 64) (pos 15625)
-short-divides a b h k = divides-over 64 15625 8796093022207 (2 ^ 25) a b h (le-of-lt (k .size)) (lit< tt) (lit< tt) (lit< tt)
+pub short-divides : {m : ℕ} (a b : ℤ) → natAbs a ≤ 8796093022207 → In 25 b → 0 < m → m ≤ 15625 → Divides (shrZ (a *ℤ b) 64) (pos m)
+short-divides {m} a b h k some most =
+    let room : 8796093022207 * 2 ^ 25 / 64 + 1 + 15625 < 2 ^ 62 = lit< tt in
+    divides-over 64 m 8796093022207 (2 ^ 25) a b h (le-of-lt (k .size)) (lit< tt) some (omega (arith, room, most))

@@ -27,6 +27,11 @@ no-answer : (k v w : ℕ) → 255 < k → refuses 6 ≡ answerBy chosen k v w
 unfolding answerBy
 no-answer k v w h = sym (ap (λ (x : Kind). heldBy chosen (propertyOf x) v w) (no-kind k h))
 
+returns-2 : tie.Need-returns-2
+returns-2 c =
+    let e = c .flatten2 .ensures ∙ ap flat (c .before .evaluate .ensures .0) in
+    (e, state-made flat _ _ _ _ e)
+
 flatten-requires : tie.Need-flatten-requires
 flatten-requires c κs = search needs
 
@@ -44,11 +49,6 @@ evaluate-requires c κs = search needs
 
 flatten-requires-2 : tie.Need-flatten-requires-2
 flatten-requires-2 c κs = search needs
-
-returns-2 : tie.Need-returns-2
-returns-2 c =
-    let e = c .flatten2 .ensures ∙ ap flat (c .before .evaluate .ensures .0) in
-    (e, state-made flat _ _ _ _ e)
 
 pub eas-evaluate-spec : {M : Type 1} → statement M
 eas-evaluate-spec =

@@ -1,12 +1,12 @@
 -- `airstate::eas_find` meets its contract by its two calls.
 use mathlib.Core.Path.{_≡_, ap, _∙_}
-use Rattle.flat.specs.Flat.{flatFound}
+use Rattle.flat_parts.specs.Flat.{flatFound}
 use borrow.Author.Needs.{needs}
 use Rattle.airstate.proofs.eas_find.Statement.{statement}
 use Rattle.airstate.proofs.eas_find.Tie as tie
 use Rattle.airstate.proofs.eas_find.Reads as reads
 use Rattle.airstate.proofs.eas_find.Lts as lts
-use Rattle.flat.proofs.flatten_found.Reads as flatten-found-reads
+use Rattle.flat_parts.proofs.flatten_found.Reads as flatten-found-reads
 use Rattle.calculator.proofs.locate.Reads as locate-reads
 
 locate-requires : tie.Need-locate-requires

@@ -1,6 +1,6 @@
 -- `airstate::eas_line` flattens what the line gives; the room is as the line leaves it.
 use mathlib.Core.Path.{_≡_, ap, _∙_}
-use Rattle.flat.specs.Flat.{flatText}
+use Rattle.flat_parts.specs.Flat.{flatText}
 use Rattle.airstate.proofs.Allowed.{line-made}
 use borrow.Author.Needs.{needs}
 use Rattle.airstate.proofs.eas_line.Statement.{statement}

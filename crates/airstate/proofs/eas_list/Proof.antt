@@ -1,6 +1,6 @@
 -- `airstate::eas_list` flattens what the listing gives; the room is as the listing leaves it.
 use mathlib.Core.Path.{_≡_, ap, _∙_}
-use Rattle.flat.specs.Flat.{flatText}
+use Rattle.flat_parts.specs.Flat.{flatText}
 use Rattle.airstate.proofs.Allowed.{listing-made}
 use borrow.Author.Needs.{needs}
 use Rattle.airstate.proofs.eas_list.Statement.{statement}

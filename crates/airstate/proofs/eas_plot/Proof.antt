@@ -1,7 +1,7 @@
 -- `airstate::eas_plot` flattens the mark of what the search holds.
 use mathlib.Core.Path.{_≡_, sym, ap, _∙_, subst}
 use Rattle.mark.specs.Mark.{markOf, CanDraw}
-use Rattle.flat.specs.Flat.{flatMark}
+use Rattle.flat_parts.specs.Flat.{flatMark}
 use Rattle.airstate.proofs.Plot.{search-shown}
 use Rattle.airstate.proofs.Allowed.{search-made}
 use borrow.Author.Needs.{needs}
@@ -12,9 +12,7 @@ search-requires : tie.Need-search-requires
 search-requires c κs = search needs
 
 mark-of-requires : tie.Need-mark-of-requires
-mark-of-requires c κs =
-    let s = c .before .before .before in
-    subst CanDraw (sym (c .search .ensures .0)) (search-shown (s .args .sheet .now) (s .args .spelled .now))
+mark-of-requires c κs = subst CanDraw (sym (c .search .ensures .0)) (search-shown _ _)
 
 flatten-mark-requires : tie.Need-flatten-mark-requires
 flatten-mark-requires c κs = search needs

@@ -1,36 +1,12 @@
--- `airstate::eas_read` reads a spelling and puts the name into the room.
-use mathlib.Core.Path.{_≡_, sym, ap, _∙_}
-use lib.ListN.{length}
-use lib.Seq.{length-take-le}
-use Rattle.octets.specs.Room.{Text, outcomeOf, written}
-use Rattle.name_reader.proofs.Answers.{Read, read-done, read-refused}
-use Rattle.flat.specs.Flat.{flatText}
-use Rattle.airstate.specs.Texts.{fitted}
+-- `airstate::eas_read` flattens what reading gives; the room is as reading leaves it.
+use mathlib.Core.Path.{_≡_, ap, _∙_}
+use Rattle.flat_parts.specs.Flat.{flatText}
 use borrow.Author.Needs.{needs}
 use Rattle.airstate.proofs.eas_read.Statement.{statement}
 use Rattle.airstate.proofs.eas_read.Tie as tie
 
 read-requires : tie.Need-read-requires
 read-requires c κs = search needs
-
-enum-known-outcome : tie.Need-enum-known-outcome
-enum-known-outcome c = search needs
-
-enum-known-outcome-2 : tie.Need-enum-known-outcome-2
-enum-known-outcome-2 c = search needs
-
--- the name stands in front of the array
-whole : (c : tie.After-known-told2) → Read (c .before .before .before .before .before .before .before .args .spelled .now) (c .before .before .before .before .read .result .bytes) (c .before .outcome2 .given .0 .0)
-whole c = read-done _ _ (c .before .outcome2 .given .0 .0) (c .before .before .before .before .read .ensures) (c .before .outcome2 .given .1)
-
-array-share-prefix-bytes : tie.Need-array-share-prefix-bytes
-array-share-prefix-bytes c = whole c .inside
-
-slice-aggregate-put : tie.Need-slice-aggregate-put
-slice-aggregate-put c = sym (length-take-le _ _ (whole (c .before) .inside))
-
-put-requires : tie.Need-put-requires
-put-requires c κs = search needs
 
 flatten-text-requires : tie.Need-flatten-text-requires
 flatten-text-requires c κs = search needs
@@ -39,34 +15,9 @@ same-length : tie.Need-same-length
 same-length c = search needs
 
 returns : tie.Need-returns
-unfolding flatText
 returns c =
-    let a = c .before .before .before .before in
-    let out = a .before .before .before .args .out .now in
-    let e = ap (fitted (length out)) (read-refused _ _ _ (a .read .ensures) (c .before .outcome .given .1)) in
-    (sym (ap (λ (t : Text). flatText (outcomeOf t)) e), sym (ap (λ (t : Text). written t out) e))
-
-returns-2 : tie.Need-returns-2
-returns-2 c =
-    let p = c .before .before .before in
-    let k = p .before .before .before in
-    let out = k .before .before .before .before .before .before .before .args .out .now in
-    let e = ap (fitted (length out)) (whole k .same) in (
-      c .flatten-text .ensures ∙ ap flatText (p .put .ensures .0 ∙ sym (ap outcomeOf e)),
-      p .put .ensures .1 ∙ sym (ap (λ (t : Text). written t out) e),
-    )
+    let k = c .before .before .before in
+    (c .flatten-text .ensures ∙ ap flatText (k .read .ensures .0), k .read .ensures .1)
 
 pub eas-read-spec : {M : Type 1} → statement M
-eas-read-spec =
-    tie.close
-    (tie.spec
-    read-requires
-    enum-known-outcome
-    enum-known-outcome-2
-    array-share-prefix-bytes
-    slice-aggregate-put
-    put-requires
-    flatten-text-requires
-    returns
-    same-length
-    returns-2)
+eas-read-spec = tie.close (tie.spec read-requires flatten-text-requires same-length returns)

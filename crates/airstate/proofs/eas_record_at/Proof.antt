@@ -1,6 +1,6 @@
 -- `airstate::eas_record_at` meets its contract by its two calls.
 use mathlib.Core.Path.{_≡_, ap, _∙_}
-use Rattle.flat.specs.Flat.{flatFound}
+use Rattle.flat_parts.specs.Flat.{flatFound}
 use borrow.Author.Needs.{needs}
 use Rattle.airstate.proofs.eas_record_at.Statement.{statement}
 use Rattle.airstate.proofs.eas_record_at.Tie as tie

@@ -1,12 +1,12 @@
 -- `airstate::eas_spell` flattens what spelling gives; the room is as spelling leaves it.
 use mathlib.Core.Path.{_≡_, ap, _∙_}
-use Rattle.flat.specs.Flat.{flatText}
+use Rattle.flat_parts.specs.Flat.{flatText}
 use borrow.Author.Needs.{needs}
 use Rattle.airstate.proofs.eas_spell.Statement.{statement}
 use Rattle.airstate.proofs.eas_spell.Tie as tie
 use Rattle.airstate.proofs.eas_spell.Reads as reads
 use Rattle.airstate.proofs.eas_spell.Lts as lts
-use Rattle.flat.proofs.flatten_text.Reads as flatten-text-reads
+use Rattle.flat_parts.proofs.flatten_text.Reads as flatten-text-reads
 use Rattle.name_writer.proofs.spell.Reads as spell-reads
 
 spell-requires : tie.Need-spell-requires

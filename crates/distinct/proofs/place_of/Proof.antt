@@ -1,6 +1,6 @@
 -- `distinct::place_of` meets its contract: a name that a record has is on the chain of its hash. Assumes nothing.
 use Rattle.distinct.proofs.Walk.{placed}
-use native.Mathlib.Omega.{arith}
+use native.Mathlib.Nat.{le-trans, lt-of-lt-of-le}
 use borrow.Author.Needs.{needs}
 use Rattle.distinct.proofs.place_of.Statement.{statement}
 use Rattle.distinct.proofs.place_of.Tie as tie
@@ -17,8 +17,7 @@ element-copy-out-in-chain c = search needs
 in-chain-requires : tie.Need-in-chain-requires
 in-chain-requires c κs =
     let t = c .before .before .before .before .pre .1 in
-    let low = t .low (c .before .hash-of .result) in
-    (omega (arith, low, t .most), λ j k. t .fit j (omega (arith, low)), t .falling)
+    (le-trans (t .low _) (t .most), λ j k. t .fit j (lt-of-lt-of-le k (t .low _)), t .falling)
 
 returns : tie.Need-returns
 returns c n t =

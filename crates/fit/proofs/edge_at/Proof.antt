@@ -72,10 +72,9 @@ fitted-requires c κs =
     let a = c .before .before .before .before .before .before .before in
     let s = a .before .before in
     let w = c .before .before .weight in
-    rw (back-ok (w .result) (w .ok)) (
-      in-ok (first a) (a .bicubic .ok) (first-in (s .args .c) (s .args .y) (s .args .z) (s .pre)),
-      (w .ensures .1 .least, (w .ensures .1 .most, in-ok (second c) (c .bicubic2 .ok) (takes (c .before .before .before .before .before) .second))),
-    )
+    let in-a = in-ok (first a) (a .bicubic .ok) (first-in (s .args .c) (s .args .y) (s .args .z) (s .pre)) in
+    let in-b = in-ok (second c) (c .bicubic2 .ok) (takes (c .before .before .before .before .before) .second) in
+    rw (back-ok (w .result) (w .ok)) (search needs, (w .ensures .1 .least, (w .ensures .1 .most, search needs)))
 
 returns : tie.Need-returns
 returns c =

@@ -1,7 +1,7 @@
 -- `quotient::mul` is the quotient by a million: at once, or by 64 and then by 15,625.
 use mathlib.Core.Path.{_≡_, refl, _∙_}
 use Prim.Native.Nat.{_≤_}
-use lib.Dec.{lit<}
+use lib.Dec.{lit<, lit≤}
 use lib.IntN.{natAbs}
 use Rattle.quotient.specs.Mul.{mul}
 use Rattle.integer.proofs.Machine.{back, back-ok}
@@ -31,7 +31,7 @@ mul-short-requires : tie.Need-mul-short-requires
 mul-short-requires c κs =
     let s = c .before .before in
     rw (back (s .fits .a), back (s .fits .b))
-    (lit< tt, refl, short-splits (short c) (s .pre .1), short-divides (s .args .a) (s .args .b) (short c) (s .pre .1))
+    (lit< tt, refl, short-splits (short c) (s .pre .1), short-divides (s .args .a) (s .args .b) (short c) (s .pre .1) (lit< tt) (lit≤ tt))
 
 returns-2 : tie.Need-returns-2
 unfolding mul

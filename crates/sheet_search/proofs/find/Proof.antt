@@ -17,6 +17,12 @@ hit c =
     hits (b .args .s .now) (b .args .starts .now) (b .args .heads .now) (b .args .next .now) x (b .args .name .now) (c .before .place-of .result)
     (c .before .place-of .ensures (x .count) (x .table)) (λ z. omega arith)
 
+returns-2 : tie.Need-returns-2
+returns-2 c =
+    let e = c .before .before .before in
+    let s = e .before .before .before .before .before .before .args .s .now in
+    ap Hit (c .entry-at .ensures ∙ ap (entryAt s) (e .place .ensures)) ∙ sym (hit (e .before .before) .is)
+
 place-of-requires : tie.Need-place-of-requires
 place-of-requires c κs = (c .before .before .pre .count, c .before .before .pre .table)
 
@@ -51,12 +57,6 @@ entry-at-requires : tie.Need-entry-at-requires
 entry-at-requires c κs =
     let h = rw (← c .before .before .place .ensures) at (hit (c .before .before .before .before) .fits) in
     (c .long .ensures .0, omega (arith, c .long .ensures .0))
-
-returns-2 : tie.Need-returns-2
-returns-2 c =
-    let e = c .before .before .before in
-    let s = e .before .before .before .before .before .before .args .s .now in
-    ap Hit (c .entry-at .ensures ∙ ap (entryAt s) (e .place .ensures)) ∙ sym (hit (e .before .before) .is)
 
 pub find-spec : {M : Type 1} → statement M
 find-spec =

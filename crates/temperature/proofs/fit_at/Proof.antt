@@ -15,6 +15,12 @@ use Rattle.temperature.proofs.fit_at.Tie as tie
 use Rattle.temperature.proofs.fit_at.Reads as reads
 use Rattle.temperature.proofs.fit_at.Lts as lts
 
+returns : tie.Need-returns
+returns c =
+    let s = c .before .before in
+    (rw (back (s .fits .y), back (s .fits .z)) at (c .edge-at .ensures))
+    ∙ ap (λ (k : Piece). edgeWith weightOf k (s .args .y) (s .args .z)) (c .before .piece .ensures)
+
 piece-requires : tie.Need-piece-requires
 piece-requires c κs = c .pre .piece
 
@@ -24,12 +30,6 @@ edge-at-requires c κs =
     rw (c .piece .ensures)
     (workable (piece-small (s .args .band) (s .args .i)) (in-back (s .fits .y) (in-23 (s .args .y) (s .pre .y-most)))
     (in-back (s .fits .z) (in-23 (s .args .z) (omega (arith, s .pre .z-most)))))
-
-returns : tie.Need-returns
-returns c =
-    let s = c .before .before in
-    (rw (back (s .fits .y), back (s .fits .z)) at (c .edge-at .ensures))
-    ∙ ap (λ (k : Piece). edgeWith weightOf k (s .args .y) (s .args .z)) (c .before .piece .ensures)
 
 pub fit-at-spec : {M : Type 1} → statement M
 fit-at-spec = tie.close (tie.spec piece-requires edge-at-requires returns)

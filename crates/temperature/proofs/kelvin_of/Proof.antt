@@ -22,7 +22,7 @@ cast-kelvin-power : tie.Need-cast-kelvin-power
 cast-kelvin-power c = rw (back (c .fits .fit)) (fit-passes c .plain, record { fits = omega (arith, fit-passes c .most) })
 
 kelvin-power-requires : tie.Need-kelvin-power-requires
-kelvin-power-requires c κs = rw (back (c .fits .fit)) (kelvin-range (c .args .fit) (fit-passes c))
+kelvin-power-requires c κs = rw (back (c .fits .fit)) (omega (arith, fit-passes c .most))
 
 kelvin : (c : tie.After-kelvin-power) → c .kelvin-power .result ≡ powerOf (natAbs (c .before .args .fit) / 10000)
 kelvin c = rw (back (c .before .fits .fit)) at (c .kelvin-power .ensures .0)

@@ -8,7 +8,7 @@ use borrow.Author.Tests.{not-true, not-false}
 use lib.Dec.{lit<}
 use lib.IntN.{ℤ, natAbs, _-ℤ_}
 use mir.Syntax.{w64}
-use mir.Val.{SFits, toZ, ofZ}
+use mir.Val.{toZ, ofZ}
 use Rattle.integer.specs.Laws.{abs--}
 use Rattle.integer.specs.Tests.{is-true}
 use Rattle.logarithm.specs.Choice.{logOf}
@@ -40,15 +40,18 @@ x-is c = back-ok (c .log10-ratio .result) (c .log10-ratio .ok) ∙ c .log10-rati
 y-is : (c : tie.After-log10-ratio2) → toZ w64 (ofZ w64 (c .log10-ratio2 .result)) ≡ logOf (c .before .before .before .before .before .before .args .d) D0
 y-is c = back-ok (c .log10-ratio2 .result) (c .log10-ratio2 .ok) ∙ c .log10-ratio2 .ensures .0
 
-z-fits : (c : tie.After-log10-ratio2) → let s = c .before .before .before .before .before .before in SFits w64 (logOf (s .args .p) P0 -ℤ logOf (s .args .d) D0)
-z-fits c =
+-- X - Y and Y - X fit
+differences-fit : (c : tie.After-log10-ratio2) → let s = c .before .before .before .before .before .before in
+    let x = logOf (s .args .p) P0 in let y = logOf (s .args .d) D0 in (natAbs (x -ℤ y) < 2 ^ 63) × (natAbs (y -ℤ x) < 2 ^ 63)
+differences-fit c =
     let s = c .before .before .before .before .before .before in
     let p = s .args .p in
     let d = s .args .d in
     let hp = at-least 1 (10 ^ 17) p (pressure (c .before .before .before .before)) in
     let hd = at-least 12920 129200000000000 d (density (c .before .before)) in
-    fits64 _
-    (omega (arith, abs-- (logOf p P0) (logOf d D0), log-small p P0 (omega arith) (s .fits .p .fits), log-small d D0 (omega arith) (s .fits .d .fits)))
+    let x = log-small p P0 (omega arith) (s .fits .p .fits) in
+    let y = log-small d D0 (omega arith) (s .fits .d .fits) in
+    (omega (arith, abs-- (logOf p P0) (logOf d D0), x, y), omega (arith, abs-- (logOf d D0) (logOf p P0), x, y))
 
 logs-are : (c : tie.After-log10-ratio2) → let s = c .before .before .before .before .before .before in
     record {
@@ -58,7 +61,7 @@ logs-are : (c : tie.After-log10-ratio2) → let s = c .before .before .before .b
       z = toZ w64 (ofZ w64 (toZ w64 (ofZ w64 (c .before .log10-ratio .result)) -ℤ toZ w64 (ofZ w64 (c .log10-ratio2 .result))));
     }
     ≡ temperatureLogs chosen (s .args .p) (s .args .d)
-logs-are c = rw (x-is (c .before), y-is c, back (z-fits c))
+logs-are c = rw (x-is (c .before), y-is c, back (fits64 _ (differences-fit c .0)))
 
 within-requires : tie.Need-within-requires
 within-requires c κs = search needs
@@ -83,7 +86,7 @@ log10-ratio-requires-2 : tie.Need-log10-ratio-requires-2
 log10-ratio-requires-2 c κs = (omega (arith, at-least 12920 129200000000000 (c .before .before .before .before .before .args .d) (density (c .before))), lit< tt)
 
 sub-t7 : tie.Need-sub-t7
-sub-t7 c = rw (x-is (c .before), y-is c) (z-fits c)
+sub-t7 c = rw (x-is (c .before), y-is c) (fits64 _ (omega (arith, differences-fit c)))
 
 temperature-from-requires : tie.Need-temperature-from-requires
 temperature-from-requires c κs =

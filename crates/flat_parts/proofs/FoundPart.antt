@@ -6,7 +6,7 @@ use Rattle.octets.specs.Bytes.{part}
 use Rattle.sheet_search.specs.Find.{handedBack}
 use Rattle.sheet_search.specs.declared.Lookup.{Lookup}
 use Rattle.sheet_search.specs.declared.Lookup.the-variants.{Hit, Miss}
-use Rattle.flat.specs.Flat.{flatFound}
+use Rattle.flat_parts.specs.Flat.{flatFound}
 
 pub found-part : (s : List ℕ) (f : Lookup) → part s (flatFound f .start) (flatFound f .length) ≡ handedBack s f
 unfolding flatFound

@@ -1,11 +1,11 @@
--- `flat::flatten_found` flattens each case.
+-- `flat_parts::flatten_found` flattens each case.
 use mathlib.Core.Path.{sym, ap}
-use Rattle.flat.specs.Flat.{flatFound}
+use Rattle.flat_parts.specs.Flat.{flatFound}
 use borrow.Author.Needs.{needs}
-use Rattle.flat.proofs.flatten_found.Statement.{statement}
-use Rattle.flat.proofs.flatten_found.Tie as tie
-use Rattle.flat.proofs.flatten_found.Reads as reads
-use Rattle.flat.proofs.flatten_found.Lts as lts
+use Rattle.flat_parts.proofs.flatten_found.Statement.{statement}
+use Rattle.flat_parts.proofs.flatten_found.Tie as tie
+use Rattle.flat_parts.proofs.flatten_found.Reads as reads
+use Rattle.flat_parts.proofs.flatten_found.Lts as lts
 
 enum-known-found : tie.Need-enum-known-found
 enum-known-found c = search needs

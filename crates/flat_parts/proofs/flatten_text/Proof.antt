@@ -1,11 +1,11 @@
--- `flat::flatten_text` flattens each case.
+-- `flat_parts::flatten_text` flattens each case.
 use mathlib.Core.Path.{sym, ap}
-use Rattle.flat.specs.Flat.{flatText}
+use Rattle.flat_parts.specs.Flat.{flatText}
 use borrow.Author.Needs.{needs}
-use Rattle.flat.proofs.flatten_text.Statement.{statement}
-use Rattle.flat.proofs.flatten_text.Tie as tie
-use Rattle.flat.proofs.flatten_text.Reads as reads
-use Rattle.flat.proofs.flatten_text.Lts as lts
+use Rattle.flat_parts.proofs.flatten_text.Statement.{statement}
+use Rattle.flat_parts.proofs.flatten_text.Tie as tie
+use Rattle.flat_parts.proofs.flatten_text.Reads as reads
+use Rattle.flat_parts.proofs.flatten_text.Lts as lts
 
 enum-known-t : tie.Need-enum-known-t
 enum-known-t c = search needs

@@ -1,12 +1,12 @@
--- `flat::flatten_mark` flattens each case.
+-- `flat_parts::flatten_mark` flattens each case.
 use mathlib.Core.Path.{sym, ap}
 use lib.Ieee.{ofBits, ofInt}
-use Rattle.flat.specs.Flat.{flatMark}
+use Rattle.flat_parts.specs.Flat.{flatMark}
 use borrow.Author.Needs.{needs}
-use Rattle.flat.proofs.flatten_mark.Statement.{statement}
-use Rattle.flat.proofs.flatten_mark.Tie as tie
-use Rattle.flat.proofs.flatten_mark.Reads as reads
-use Rattle.flat.proofs.flatten_mark.Lts as lts
+use Rattle.flat_parts.proofs.flatten_mark.Statement.{statement}
+use Rattle.flat_parts.proofs.flatten_mark.Tie as tie
+use Rattle.flat_parts.proofs.flatten_mark.Reads as reads
+use Rattle.flat_parts.proofs.flatten_mark.Lts as lts
 
 enum-known-m : tie.Need-enum-known-m
 enum-known-m c = search needs
