@@ -84,13 +84,14 @@ pub fn index(
     }
     let records = sheet_record::number(s, 5, 2) as usize;
     let walked = walk_records(s, records, starts);
+    let at = walked.at;
+    let left = walked.left;
+    let end = sheet_record::end_at(s, at, left);
     let count = walked.count;
     if distinct::repeats(s, starts, count, heads, next) {
         return 16;
     }
-    let at = walked.at;
-    let left = walked.left;
-    sheet_record::end_at(s, at, left)
+    end
 }
 
 // The number of the first condition that refuses a sheet, or 0.

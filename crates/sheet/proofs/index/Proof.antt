@@ -1,8 +1,6 @@
 -- `sheet::index` gives the number of the definition: the header's, else 16 where two of the records walked over share a name, else the walk's.
 use mathlib.Core.Bool.{cond}
 use mathlib.Core.Path.{_≡_, sym, _∙_}
-use Rattle.sheet_record.specs.Layout.{layoutIn}
-use Rattle.sheet_record.specs.Front.{endAt}
 use Rattle.sheet.specs.Sheet.{sheetOf, numberOf}
 use Rattle.sheet.proofs.Accept.{headed, number-head, number-walked}
 use Rattle.sheet.proofs.Kept.{names-fit, indexed}
@@ -11,13 +9,14 @@ use borrow.Author.Needs.{needs}
 use Rattle.sheet.proofs.index.Statement.{statement}
 use Rattle.sheet.proofs.index.Tie as tie
 
-number-is : (c : tie.After-repeats) → let w = c .before .before .before .before .walk-records in let s = c .before .before .before .before .before .before .before .before .before .before .args .s .now in numberOf (sheetOf s) ≡ cond (c .repeats .result) 16 (endAt (layoutIn s) s (w .result .at) (w .result .left))
+number-is : (c : tie.After-repeats) → let e = c .before .before .before .before in let s = e .before .before .before .before .before .before .before .args .s .now in numberOf (sheetOf s) ≡ cond (c .repeats .result) 16 (e .end-at .result)
 number-is c =
-    let n = c .before .before .before .before .before .before in
+    let e = c .before .before .before .before in
+    let w = e .before .walk-records in
+    let n = e .before .before .before in
     let h = n .before in
     let s = h .before .before .before .args .s .now in
-    let w = c .before .before .before .before .walk-records in
-    rw (c .repeats .ensures .0)
+    rw (c .repeats .ensures .0, e .end-at .ensures)
     (number-walked s (n .number .result) (w .result .at) (w .result .left) (w .result .count) (w .last .1 .1 .0) (sym (h .before .head-fault .ensures) ∙ h .if1 .left) (n .number .ensures) (w .ensures))
 
 head-fault-requires : tie.Need-head-fault-requires
@@ -40,10 +39,13 @@ walk-records-requires c κs =
     let b = h .before .before .before in
     (headed (b .args .s .now) (sym (h .before .head-fault .ensures) ∙ h .if1 .left) .most, b .pre .whole)
 
+end-at-requires : tie.Need-end-at-requires
+end-at-requires c κs = search needs
+
 repeats-requires : tie.Need-repeats-requires
 repeats-requires c κs =
-    let w = c .before .before .before .walk-records in
-    let b = c .before .before .before .before .before .before .before .before .before in (
+    let w = c .before .before .before .before .walk-records in
+    let b = c .before .before .before .before .before .before .before .before .before .before in (
       w .ensures .most,
       names-fit (b .args .s .now) (w .last .1 .1 .0) _ (w .result .count) (omega (arith, w .ensures .most, w .ensures .whole)) (w .ensures .places),
       w .ensures .whole,
@@ -54,19 +56,17 @@ repeats-requires c κs =
 returns-2 : tie.Need-returns-2
 returns-2 c = (sym (rw (c .if2 .taken) at (number-is (c .before))), λ z. absurd (omega arith))
 
-end-at-requires : tie.Need-end-at-requires
-end-at-requires c κs = search needs
-
 returns-3 : tie.Need-returns-3
 returns-3 c =
-    let r = c .before .before in
-    let n = r .before .before .before .before .before .before in
+    let r = c .before in
+    let e = r .before .before .before .before in
+    let n = e .before .before .before in
     let s = n .before .before .before .before .args .s .now in
-    let w = r .before .before .before .before .walk-records in
-    let e : numberOf (sheetOf s) ≡ c .end-at .result = rw (c .before .if2 .left) at (number-is r) ∙ sym (c .end-at .ensures) in (
-      sym e,
+    let w = e .before .walk-records in
+    let k : numberOf (sheetOf s) ≡ e .end-at .result = rw (c .if2 .left) at (number-is r) in (
+      sym k,
       λ z. indexed s (n .number .result) (w .result .at) (w .result .left) (w .result .count) (w .last .1 .1 .0) (r .repeats .last .1 .1 .1 .0) (r .repeats .last .1 .1 .1 .1 .0) (n .number .ensures)
-          (w .ensures) (r .repeats .ensures .1 (c .before .if2 .left)) (e ∙ z),
+          (w .ensures) (r .repeats .ensures .1 (c .if2 .left)) (k ∙ z),
     )
 
 pub index-spec : {M : Type 1} → statement M
@@ -77,7 +77,7 @@ index-spec =
     returns
     number-requires
     walk-records-requires
+    end-at-requires
     repeats-requires
     returns-2
-    end-at-requires
     returns-3)
