@@ -10,9 +10,10 @@ use Rattle.air.specs.Choices.{chosen}
 use Rattle.octets.specs.Room.{Text, fitting, written, outcomeOf}
 use Rattle.octets.specs.declared.Outcome.{Outcome}
 use Rattle.octets.specs.declared.Outcome.the-variants.{Done, Refused}
-use Rattle.report.specs.Listing.{listingBy, refusalOf}
+use Rattle.report_refusal.specs.Refusal.{refusalOf}
+use Rattle.report.specs.Listing.{listingBy}
 use Rattle.report.specs.Steps.{refusal}
-use Rattle.report.proofs.Cases.{done-fits}
+use Rattle.report_refusal.proofs.Cases.{done-fits}
 use Rattle.octets.proofs.Stores.{dropped}
 use Rattle.report.proofs.Whole.{whole, answered}
 

@@ -12,9 +12,10 @@ use lib.Seq.{take-at, drop-at, drop-drop}
 use Rattle.air.specs.Choices.{chosen}
 use Rattle.sheet.specs.Sheet.{sheetOf, numberOf}
 use Rattle.name_list.specs.Lines.{linesOf}
-use Rattle.report.specs.Listing.{linesBy, listingBy, refusalOf}
+use Rattle.report_refusal.specs.Refusal.{refusalOf}
+use Rattle.report.specs.Listing.{linesBy, listingBy}
 use Rattle.report.specs.Steps.{Part}
-use Rattle.report.proofs.Cases.{either}
+use Rattle.report_refusal.proofs.Cases.{either}
 use Rattle.name_list.proofs.Lines.{none-left}
 use Rattle.report.proofs.Output.{lines-append}
 use Rattle.listing_output.specs.Output.{Next}

@@ -7,7 +7,8 @@ ghost use mathlib.Core.Path.{_≡_};
 ghost use lib.ListN.{length, take};
 ghost use Prim.Native.Nat.{_<_, _≤_};
 ghost use Rattle.air.specs.Choices.{chosen};
-ghost use Rattle.report.specs.Listing.{listingBy, refusalOf};
+ghost use Rattle.report_refusal.specs.Refusal.{refusalOf};
+ghost use Rattle.report.specs.Listing.{listingBy};
 ghost use Rattle.sheet.specs.Index.{Indexed};
 ghost use Rattle.listing_input.specs.Input.{ToEnd};
 ghost use Rattle.listing_output.specs.Output.{Reached};
@@ -55,7 +56,7 @@ fn write_listing(sheet: &[u8], list: &[u8], out: &mut [u8]) -> Written
     let mut heads = distinct::no_heads();
     let mut next = distinct::no_links();
     let nothing = listing_output::nothing();
-    match report::begin(sheet, &mut starts, &mut heads, &mut next, list, out) {
+    match report_refusal::begin(sheet, &mut starts, &mut heads, &mut next, list, out) {
         Outcome::Done(n) => {
             if n == 0 {
                 return write_parts(sheet, &starts, &heads, &next, list, out);

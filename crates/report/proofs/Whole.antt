@@ -13,11 +13,13 @@ use Rattle.octets.specs.declared.Outcome.{Outcome}
 use Rattle.octets.specs.declared.Outcome.the-variants.{Done}
 use Rattle.octets.specs.Room.{Text, fitting, written, outcomeOf}
 use Rattle.name_list.specs.Lines.{linesOf}
-use Rattle.report.specs.Listing.{linesBy, listingBy, refusalOf, IsListing}
+use Rattle.report_refusal.specs.Refusal.{refusalOf}
+use Rattle.report.specs.Listing.{linesBy, listingBy, IsListing}
 use Rattle.report.specs.Steps.{Parts, none, more, Output, refusal, lines}
 use Rattle.name_list.proofs.Lines.{none-left}
 use Rattle.report.proofs.Output.{lines-append}
-use Rattle.report.proofs.Cases.{done-fits, one-line, all-lines}
+use Rattle.report_refusal.proofs.Cases.{done-fits}
+use Rattle.report.proofs.Cases.{one-line, all-lines}
 use Rattle.report.proofs.Allowed.{listing-allowed}
 
 module _ (sheet list : List ℕ) where

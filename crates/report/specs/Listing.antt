@@ -1,16 +1,14 @@
 -- Document 01, Listing program: the whole output. `sheet` is what the file has, nothing where it cannot be opened.
-use mathlib.Core.Bool.{cond}
 use mathlib.Core.List.{List, [], _∷_, _++_}
 use mathlib.Core.Path.{_≡_}
 use Prim.Native.Nat.{ℕ}
-use lib.Dec.{ltb, eqb}
-use lib.ListN.{length}
 use Rattle.air.specs.declared.Answer.{Answer}
 use Rattle.air.specs.Held.{held}
 use Rattle.air.specs.Choices.{Choices}
 use Rattle.sheet.specs.Sheet.{sheetOf, numberOf}
 use Rattle.calculator.specs.Search.{IsSearch, searchBy}
-use Rattle.line.specs.Line.{line, refusalRest}
+use Rattle.line.specs.Line.{line}
+use Rattle.report_refusal.specs.Refusal.{listingFor}
 use Rattle.name_list.specs.Lines.{linesOf}
 
 -- what a program with these choices writes for spelled names, a line each
@@ -18,25 +16,9 @@ unfoldable pub linesBy : Choices → List ℕ → List (List ℕ) → List ℕ
 linesBy c sheet [] = []
 linesBy c sheet (n ∷ ns) = line n (searchBy c sheet n) ++ linesBy c sheet ns
 
--- the words `sheet` and `list`
-abbrev pub sheetWord : List ℕ
-sheetWord = 115 ∷ 104 ∷ 101 ∷ 101 ∷ 116 ∷ []
-
-abbrev pub listWord : List ℕ
-listWord = 108 ∷ 105 ∷ 115 ∷ 116 ∷ []
-
--- a refused sheet gives its line alone, then a list over 65,536 bytes gives its own; `number` is 0 for an accepted sheet
-abbrev pub listingFor : ℕ → List ℕ → List ℕ → List ℕ
-listingFor number input lines =
-    cond (eqb number 0) (cond (ltb 65536 (length input)) (listWord ++ refusalRest 15) lines) (sheetWord ++ refusalRest number)
-
 -- what a program with these choices writes
 unfoldable pub listingBy : Choices → List ℕ → List ℕ → List ℕ
 listingBy c sheet input = listingFor (numberOf (sheetOf sheet)) input (linesBy c sheet (linesOf input))
-
--- the line of a refused sheet or list; nothing where neither is refused
-unfoldable pub refusalOf : List ℕ → List ℕ → List ℕ
-refusalOf sheet input = listingFor (numberOf (sheetOf sheet)) input []
 
 -- lines of spelled names, each with an answer that document 01 allows for its search
 pub data Lines (sheet : List ℕ) : List (List ℕ) → List ℕ → Type 0 where

@@ -64,7 +64,7 @@ pub fn listing(sheet: &[u8], list: &[u8], out: &mut [u8]) -> Outcome
     let mut starts = distinct::no_links();
     let mut heads = distinct::no_heads();
     let mut next = distinct::no_links();
-    match report::begin(sheet, &mut starts, &mut heads, &mut next, list, out) {
+    match report_refusal::begin(sheet, &mut starts, &mut heads, &mut next, list, out) {
         Outcome::Refused(number) => Outcome::Refused(number),
         Outcome::Done(n) => {
             if n != 0 {

@@ -10,7 +10,8 @@ use Rattle.octets.specs.declared.Outcome.{Outcome}
 use Rattle.octets.specs.declared.Outcome.the-variants.{Done}
 use Rattle.octets.specs.Room.{fitting, written, outcomeOf}
 use Rattle.name_list.specs.Lines.{linesOf}
-use Rattle.report.specs.Listing.{linesBy, listingBy, refusalOf}
+use Rattle.report_refusal.specs.Refusal.{refusalOf}
+use Rattle.report.specs.Listing.{linesBy, listingBy}
 use Rattle.report.proofs.Cases.{one-line, all-lines}
 use borrow.Author.Needs.{needs}
 use Rattle.run_list.proofs.listing.Statement.{statement}

@@ -11,7 +11,7 @@ use Rattle.octets.proofs.Held.{held-refused}
 use Rattle.name_list.specs.Lines.{linesOf}
 use Rattle.report.specs.Listing.{linesBy}
 use Rattle.report.specs.Steps.{Part}
-use Rattle.report.proofs.Cases.{done-fits}
+use Rattle.report_refusal.proofs.Cases.{done-fits}
 use Rattle.report.proofs.Output.{left, part-whole}
 use borrow.Author.Needs.{needs}
 use Rattle.run_list.proofs.put_lines.Statement.{statement}

@@ -1,15 +1,15 @@
--- `report::begin` meets its contract. Assumes nothing.
+-- `report_refusal::begin` meets its contract. Assumes nothing.
 use mathlib.Core.List.{_++_}
 use mathlib.Core.Path.{refl, sym, _∙_}
 use native.Mathlib.Omega.{arith}
 use borrow.Author.Tests.{le-leb}
 use lib.ListN.{length}
 use Rattle.line.specs.Line.{refusalRest}
-use Rattle.report.specs.Listing.{sheetWord, listWord}
-use Rattle.report.proofs.Cases.{refused-sheet, refused-list, not-refused, not-empty}
+use Rattle.report_refusal.specs.Refusal.{sheetWord, listWord}
+use Rattle.report_refusal.proofs.Cases.{refused-sheet, refused-list, not-refused, not-empty}
 use borrow.Author.Needs.{needs}
-use Rattle.report.proofs.begin.Statement.{statement}
-use Rattle.report.proofs.begin.Tie as tie
+use Rattle.report_refusal.proofs.begin.Statement.{statement}
+use Rattle.report_refusal.proofs.begin.Tie as tie
 
 index-requires : tie.Need-index-requires
 index-requires c κs = search needs
