@@ -76,11 +76,11 @@ made x k = record { bytes = x; len = k }
 pub built : (name rest bytes last : List ℕ) (r : ℕ)
     → length name ≤ 120
     → bytes ≡ written (fitting 192 name) (replicate 192 0)
+    → last ≡ sets bytes (length name) rest
     → r ≡ length name + length rest
     → r ≤ length name + 66
-    → last ≡ sets bytes (length name) rest
     → _≡_ {A = Line} (record { bytes = last; len = r }) (lineHeld (name ++ rest))
-built name rest bytes last r h e l f s =
+built name rest bytes last r h e s l f =
     let z : List ℕ = replicate 192 0 in
     let b : bytes ≡ name ++ drop (length name) z = e ∙ ap (λ (t : Bool). written (cond t (text name) (refused 14)) z) (le-leb (length name) 192 (omega arith)) in
     let n : length (name ++ rest) ≡ length name + length rest = length-append name rest in

@@ -1,3 +1,4 @@
+pub mod Allowed
 pub mod Table
 pub mod Powers
 pub mod Digits

@@ -1,10 +1,12 @@
 -- `bands::region_of` meets its contract.
+use mathlib.Core.Bool.{true, false}
 use mathlib.Core.Logic.{⊎-elim}
 use mathlib.Core.Path.{_≡_, _∙_, ap}
 use borrow.Author.Needs.{needs}
 use Rattle.integer.proofs.Machine.{back}
 use Rattle.bands.specs.Bands.{bandOf}
-use Rattle.bands.specs.Region.{temperatureIndex}
+use Rattle.bands.specs.Region.{temperatureIndex, isPerfect}
+use Rattle.bands.proofs.Tests.{tests}
 use Rattle.bands.proofs.region_of.Statement.{statement}
 use Rattle.bands.proofs.region_of.Tie as tie
 
@@ -20,7 +22,9 @@ returns-2 : tie.Need-returns-2
 returns-2 c =
     let d = c .before in
     let s = d .before .before in
-    simp (rw (back (s .fits .z)) at (d .before .if1 .left), rw (back (s .fits .z)) at (d .if2 .left), rw (back (s .fits .z)) at (c .if3 .taken))
+    let t = rw (back (s .fits .z)) at (c .if3 .taken) in
+    let perfect : isPerfect (s .args .z) ≡ true = omega tests in
+    simp (rw (back (s .fits .z)) at (d .before .if1 .left), rw (back (s .fits .z)) at (d .if2 .left), perfect)
 
 band-of-requires : tie.Need-band-of-requires
 band-of-requires c κs = search needs
@@ -41,7 +45,9 @@ returns-3 c =
     let e = c .before .before in
     let d = e .before in
     let s = d .before .before in
-    simp (band (c .before), index c, rw (back (s .fits .z)) at (d .before .if1 .left), rw (back (s .fits .z)) at (d .if2 .left), rw (back (s .fits .z)) at (e .if3 .left))
+    let t = rw (back (s .fits .z)) at (e .if3 .left) in
+    let fitted : isPerfect (s .args .z) ≡ false = omega tests in
+    simp (band (c .before), index c, rw (back (s .fits .z)) at (d .before .if1 .left), rw (back (s .fits .z)) at (d .if2 .left), fitted)
 
 pub region-of-spec : {M : Type 1} → statement M
 region-of-spec =

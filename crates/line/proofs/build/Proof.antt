@@ -33,13 +33,13 @@ returns : tie.Need-returns
 returns c =
     let s = c .before .before .before .before .before .before .before .before .before in
     let p = c .put-refusal .ensures in
-    (rw (c .before .before .before .answer .given .1) (built (s .args .name .now) _ _ _ _ (s .pre) (c .before .before .before .before .before .before .put .ensures .1) (p .0 .0) (p .0 .1) (p .1)), p .0 .1)
+    (rw (c .before .before .before .answer .given .1) (built (s .args .name .now) _ _ _ _ (s .pre) (c .before .before .before .before .before .before .put .ensures .1) (p .1) (p .0 .0) (p .0 .1)), p .0 .1)
 
 returns-2 : tie.Need-returns-2
 returns-2 c =
     let s = c .before .before .before .before .before .before .before .before .before in
     let p = c .put-refusal2 .ensures in
-    (rw (c .before .before .before .answer2 .given .1) (built (s .args .name .now) _ _ _ _ (s .pre) (c .before .before .before .before .before .before .put .ensures .1) (p .0 .0) (p .0 .1) (p .1)), p .0 .1)
+    (rw (c .before .before .before .answer2 .given .1) (built (s .args .name .now) _ _ _ _ (s .pre) (c .before .before .before .before .before .before .put .ensures .1) (p .1) (p .0 .0) (p .0 .1)), p .0 .1)
 
 returns-3 : tie.Need-returns-3
 returns-3 c =
@@ -47,7 +47,7 @@ returns-3 c =
     let a = c .before .before .before .before .before .answer3 .given in
     let g = a .0 in
     let p = rw (back {z = g .1 .0 .y} (search needs), back {z = g .1 .0 .z} (search needs), back {z = g .1 .1 .1 .1 .0} (search needs)) at (c .put-value .ensures) in
-    (rw (a .1) (built (s .args .name .now) _ _ _ _ (s .pre) (c .before .before .before .before .before .before .before .before .put .ensures .1) (p .0 .0) (p .0 .1) (p .1)), p .0 .1)
+    (rw (a .1) (built (s .args .name .now) _ _ _ _ (s .pre) (c .before .before .before .before .before .before .before .before .put .ensures .1) (p .1) (p .0 .0) (p .0 .1)), p .0 .1)
 
 pub build-spec : {M : Type 1} → statement M
 build-spec =

@@ -17,6 +17,11 @@ Inv-loop sheet starts heads next list out₀ start₀ written₀ out start writt
 abbrev μ-loop : tie.MeasureT-loop
 μ-loop sheet starts heads next list out₀ start₀ written₀ out start written = length list - start
 
+returns-2 : tie.Need-returns-2 Inv-loop μ-loop
+returns-2 c =
+    let l = c .before .loop in
+    record { inside = l .inv .0 .inside; whole = λ _. all-written (l .inv .0) (omega (arith, c .loop-test .left)) }
+
 -- a part takes a line at least
 onward : (c : tie.After-part Inv-loop μ-loop) → c .before .before .before .loop .start < c .part .result .next
 onward c =
@@ -65,9 +70,6 @@ returns c =
       whole = λ g. absurd (true≢false (sym (sym (c .before .failed .ensures) ∙ c .if1 .taken) ∙ g));
     }
 
-loop-less : tie.Need-loop-less Inv-loop μ-loop
-loop-less c = omega (arith, onward (c .before .before .before .before .before .before))
-
 loop-again : tie.Need-loop-again Inv-loop μ-loop
 loop-again c =
     let s = c .before .before .before .before .before .before .before .before .before .before .before .before .before .before in
@@ -80,13 +82,11 @@ loop-again c =
     let e = w .ensures .whole f in
     (rw (e ∙ ap (λ m. l .written .done + m) n) (part-left (l .inv .0) p), f, omega (arith, e, n, onward a, p .inside, l .inv .2, l .inv .3, s .pre .1), a .part .kept .1 .1 .1 .1 .1 .1 .0 ∙ l .inv .3)
 
+loop-less : tie.Need-loop-less Inv-loop μ-loop
+loop-less c = omega (arith, onward (c .before .before .before .before .before .before))
+
 same-length-2 : tie.Need-same-length-2 Inv-loop μ-loop
 same-length-2 c = search needs
-
-returns-2 : tie.Need-returns-2 Inv-loop μ-loop
-returns-2 c =
-    let l = c .before .loop in
-    record { inside = l .inv .0 .inside; whole = λ _. all-written (l .inv .0) (omega (arith, c .loop-test .left)) }
 
 pub write-parts-spec : {M : Type 1} → statement M
 write-parts-spec =

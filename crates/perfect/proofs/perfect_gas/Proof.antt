@@ -1,8 +1,7 @@
 -- `perfect::perfect_gas` is the perfect gas's quotient: no step leaves 64 bits, and the two digits make it.
 use borrow.Author.Needs.{needs}
-use native.Mathlib.Nat.{div-le-self}
 use native.Mathlib.Omega.{arith}
-use Rattle.perfect.proofs.Quotient.{rest, quotient-most, rest-most, perfect-is}
+use Rattle.perfect.proofs.Quotient.{sum-fits, quotient-most, rest-most, perfect-is}
 use Rattle.perfect.proofs.perfect_gas.Statement.{statement}
 use Rattle.perfect.proofs.perfect_gas.Tie as tie
 
@@ -34,8 +33,7 @@ div-result-2 : tie.Need-div-result-2
 div-result-2 c = search needs
 
 add-result : tie.Need-add-result
-add-result c =
-    omega (arith, quotient-most (c .args .p) (c .args .d) (c .pre), rest-most (c .args .p) (c .args .d) (c .pre), div-le-self (rest (c .args .p) (c .args .d) (c .pre)) (c .args .d))
+add-result c = sum-fits _ _ _ (omega (arith, quotient-most (c .args .p) (c .args .d) (c .pre), rest-most (c .args .p) (c .args .d) (c .pre)))
 
 returns : tie.Need-returns
 returns c = perfect-is (c .args .p) (c .args .d) (c .pre)
