@@ -1,4 +1,4 @@
--- `listing::write_parts` meets its contract, and ends. Assumes nothing.
+-- `listing_writer::write_parts` meets its contract, and ends. Assumes nothing.
 use mathlib.Core.Bool.{true, false, true≢false}
 use mathlib.Core.Path.{_≡_, refl, sym, ap, _∙_}
 use Prim.Native.Nat.{_+_, _-_, _*_, _≤_, _<_}
@@ -6,9 +6,9 @@ use native.Mathlib.Omega.{arith}
 use lib.ListN.{length}
 use lib.Seq.{length-take-le}
 use borrow.Author.Needs.{needs}
-use Rattle.listing.proofs.Left.{Left, all-left, list-short, all-written, part-size, part-next, part-left}
-use Rattle.listing.proofs.write_parts.Statement.{statement}
-use Rattle.listing.proofs.write_parts.Tie as tie
+use Rattle.listing_writer.proofs.Left.{Left, all-left, list-short, all-written, part-size, part-next, part-left}
+use Rattle.listing_writer.proofs.write_parts.Statement.{statement}
+use Rattle.listing_writer.proofs.write_parts.Tie as tie
 
 -- a part writes at most 65,536 bytes, and takes a byte of the list at least
 abbrev Inv-loop : tie.InvT-loop

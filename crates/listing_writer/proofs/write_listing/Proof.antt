@@ -1,15 +1,15 @@
--- `listing::write_listing` meets its contract. Assumes nothing.
+-- `listing_writer::write_listing` meets its contract. Assumes nothing.
 use mathlib.Core.List.{List}
 use mathlib.Core.Path.{_≡_, sym, ap, _∙_}
 use Prim.Native.Nat.{ℕ, _≤_}
 use native.Mathlib.Omega.{arith}
 use lib.ListN.{length, take}
 use Rattle.octets.specs.declared.Outcome.the-variants.{Done}
-use Rattle.listing.proofs.Begun.{Begun, never-refused, begun-inside, begun-size, begun-empty, begun-whole}
+use Rattle.listing_writer.proofs.Begun.{Begun, never-refused, begun-inside, begun-size, begun-empty, begun-whole}
 use Rattle.listing_output.proofs.Next.{next-whole}
 use borrow.Author.Needs.{needs}
-use Rattle.listing.proofs.write_listing.Statement.{statement}
-use Rattle.listing.proofs.write_listing.Tie as tie
+use Rattle.listing_writer.proofs.write_listing.Statement.{statement}
+use Rattle.listing_writer.proofs.write_listing.Tie as tie
 
 abbrev entered : tie.After-n → tie.Start
 entered c = c .before .before .before .before .before .before .before .before .before .before .before .before .before .before .before .before
