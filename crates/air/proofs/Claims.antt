@@ -12,10 +12,9 @@ use Rattle.integer.specs.Z.{up, dn}
 use Rattle.fraction.proofs.Order.{within-more}
 use Rattle.logarithm.proofs.Range.{log-least, log-most}
 use Rattle.bands.specs.Bands.{bandOf}
-use Rattle.bands.specs.Region.{temperatureIndex}
+use Rattle.bands.specs.Region.{temperatureIndex, regionOf, pickRegion, beyondWindow, isPerfect}
 use Rattle.bands.specs.declared.Region.{Region}
 use Rattle.bands.specs.declared.Region.the-variants.{Refused, Perfect, Fitted}
-use Rattle.bands.specs.Region.{regionOf, pickRegion, beyondWindow, isPerfect}
 use Rattle.perfect.specs.Perfect.{perfectGas}
 use Rattle.kind.specs.Kind.{kindOf}
 use Rattle.kind.specs.declared.Kind.{Kind}

@@ -11,7 +11,7 @@ use Rattle.integer.specs.Z.{up, dn, zs, v, ≤→, <→, →≤, ≡-by}
 use Rattle.integer.specs.Laws.{≤ℤ-trans}
 use Rattle.fraction.specs.Fraction.{Fraction, Within, whole, parts, plus, minus, times, over}
 use Rattle.bicubic.specs.Bicubic.{bicubic}
-use Rattle.fit.specs.Fit.{straight}
+use Rattle.proportion.specs.Straight.{straight}
 use Rattle.bicubic.specs.Exact.{exactly, exactBicubic}
 use Rattle.bicubic.proofs.Near.{near-whole, near-plus, near-more, near-down, near-scaled, stands, bicubic-near, near-straight}
 use Rattle.bands.specs.declared.Band.{Band}

@@ -14,7 +14,7 @@ use Rattle.bicubic.specs.Bicubic.{bicubic}
 use Rattle.bicubic.proofs.Size.{size, bicubic-size-all}
 use Rattle.quotient.proofs.Floors.{quotient-upto}
 use Rattle.quotient.proofs.Machine.{all-at}
-use Rattle.fit.proofs.Scaling.{entropy-rise-size}
+use Rattle.proportion.proofs.Scaling.{entropy-rise-size}
 use Rattle.bands.specs.Bands.{bandOf}
 use Rattle.tgas2_entropy.specs.Entropy.{entropyCoefficients}
 use Rattle.tgas2_entropy.proofs.Sizes.{entropy-small}

@@ -2,7 +2,7 @@
 use mathlib.Core.Bool.{Bool, _||_}
 use lib.IntN.{ℤ, natAbs, _-ℤ_}
 use Rattle.fraction.specs.Fraction.{Fraction, parts, plus, minus, times}
-use Rattle.fit.specs.Fit.{straight}
+use Rattle.proportion.specs.Straight.{straight}
 use Rattle.bands.specs.declared.Strip.{Strip}
 use Rattle.bands.specs.declared.Strip.the-variants.{Clear, Between}
 

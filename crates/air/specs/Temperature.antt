@@ -10,11 +10,10 @@ use Rattle.fit.specs.Fit.{Piece}
 use Rattle.bands.specs.declared.Strip.{Strip}
 use Rattle.bands.specs.declared.Strip.the-variants.{Clear}
 use Rattle.bands.specs.Bands.{bandOf}
-use Rattle.bands.specs.Region.{temperatureIndex}
+use Rattle.bands.specs.Region.{temperatureIndex, regionOf}
 use Rattle.tgas1_temperature.specs.Pieces.{temperaturePiece}
 use Rattle.bands.specs.declared.Region.{Region}
 use Rattle.bands.specs.declared.Region.the-variants.{Refused, Perfect, Fitted}
-use Rattle.bands.specs.Region.{regionOf}
 use Rattle.perfect.specs.Perfect.{perfectGas}
 use Rattle.air.specs.declared.Logs.{Logs}
 use Rattle.air.specs.declared.Edges.the-variants.{Unfitted}

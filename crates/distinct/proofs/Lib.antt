@@ -1,5 +1,3 @@
-pub mod Same
-pub mod Names
 pub mod Pairs
 pub mod Store
 pub mod Walk

@@ -7,7 +7,8 @@ use native.Mathlib.Omega.{arith}
 use lib.ListN.{length, take}
 use lib.Seq.{getD-take, length-take-le}
 use Rattle.octets.specs.Bytes.{same}
-use Rattle.distinct.specs.Distinct.{nameAt, seenIn, repeats}
+use Rattle.sheet_name.specs.Name.{nameAt}
+use Rattle.distinct.specs.Distinct.{seenIn, repeats}
 use Rattle.distinct.specs.Chain.{nameOf, hasName}
 
 -- the first n records have different names

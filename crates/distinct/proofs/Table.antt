@@ -9,7 +9,8 @@ use native.Mathlib.Omega.{arith}
 use lib.ListN.{length, getD, set, length-set}
 use lib.Seq.{getD-set-same, getD-set-other}
 use Rattle.distinct.specs.Distinct.{NamesFit}
-use Rattle.distinct.specs.Chain.{hashOf, Reaches, here, there, Falling, nameOf, Missed, NoLinks, Table}
+use Rattle.sheet_name.specs.Name.{hashOf}
+use Rattle.distinct.specs.Chain.{Reaches, here, there, Falling, nameOf, Missed, NoLinks, Table}
 use Rattle.distinct.proofs.Pairs.{Apart}
 use Rattle.distinct.proofs.Store.{after-store}
 use Rattle.distinct.proofs.Walk.{not-there}

@@ -5,8 +5,9 @@ use mathlib.Core.Path.{_≡_, refl, sym, _∙_}
 use Prim.Native.Nat.{ℕ, suc, _-_, _<_}
 use native.Mathlib.Omega.{arith}
 use lib.ListN.{getD}
-use Rattle.distinct.specs.Chain.{hashOf, Reaches, here, there, nameOf, hasName, Missed, Walked, met, missed, Table, Placed}
-use Rattle.distinct.proofs.Same.{same-equal}
+use Rattle.sheet_name.specs.Name.{hashOf}
+use Rattle.distinct.specs.Chain.{Reaches, here, there, nameOf, hasName, Missed, Walked, met, missed, Table, Placed}
+use Rattle.sheet_name.proofs.Same.{same-equal}
 
 reaches-positive : {next : List ℕ} {k j : ℕ} → Reaches next k j → 0 < k
 reaches-positive here = omega arith

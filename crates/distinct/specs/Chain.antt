@@ -1,21 +1,13 @@
 -- Chained hashing of names: the table that `repeats` leaves and `place_of` reads, and what the functions behind them promise each other.
 -- Record j of the list of starts is linked by the number j + 1; the link 0 ends a chain.
 use mathlib.Core.Bool.{Bool, true, false}
-use mathlib.Core.List.{List, [], _∷_}
+use mathlib.Core.List.{List}
 use mathlib.Core.Path.{_≡_}
-use Prim.Native.Nat.{ℕ, suc, _+_, _*_, _/_, _%_, _≤_, _<_}
+use Prim.Native.Nat.{ℕ, suc, _+_, _≤_, _<_}
 use lib.ListN.{length, getD}
 use Rattle.octets.specs.Bytes.{same}
-use Rattle.distinct.specs.Distinct.{nameAt, NamesFit}
-
--- each byte is added, and the sum multiplied by an odd number near 2^32 over the golden ratio, modulo 2^32
-unfoldable pub hashFrom : ℕ → List ℕ → ℕ
-hashFrom h [] = h
-hashFrom h (b ∷ bs) = hashFrom ((h + b) * 2654435769 % 4294967296) bs
-
--- the chain of a name, one of 4,096: the high 12 of 32 bits
-unfoldable pub hashOf : List ℕ → ℕ
-hashOf name = hashFrom 0 name / 1048576
+use Rattle.sheet_name.specs.Name.{nameAt, hashOf}
+use Rattle.distinct.specs.Distinct.{NamesFit}
 
 -- record j is met on the way from a link
 pub data Reaches (next : List ℕ) : ℕ → ℕ → Type 0 where

@@ -1,17 +1,10 @@
 -- Whether two records of a sheet have the same name. A record is given by its start, the place of its length byte.
 use mathlib.Core.Bool.{Bool, true, false, _||_}
 use mathlib.Core.List.{List, [], _∷_}
-use Prim.Native.Nat.{ℕ, _+_, _≤_, _<_}
-use lib.ListN.{length, getD}
-use Rattle.octets.specs.Bytes.{part, same}
-
--- document 01, State sheet, a record: the name whose length byte stands at a place
-abbrev pub nameAt : List ℕ → ℕ → List ℕ
-nameAt s p = part s (p + 1) (getD s p 0)
-
--- the length byte at a place and the name after it lie in the sheet
-abbrev pub NameFits : List ℕ → ℕ → Type 0
-NameFits s p = p + 1 + getD s p 0 ≤ length s
+use Prim.Native.Nat.{ℕ, _<_}
+use lib.ListN.{getD}
+use Rattle.octets.specs.Bytes.{same}
+use Rattle.sheet_name.specs.Name.{nameAt, NameFits}
 
 -- so it is at each of the first n starts
 abbrev pub NamesFit : List ℕ → List ℕ → ℕ → Type 0

@@ -5,15 +5,8 @@ ghost use mathlib.Core.Path.{_≡_};
 ghost use mathlib.Core.Bool.{false};
 ghost use Prim.Native.Nat.{ℕ, _<_, _≤_};
 ghost use lib.ListN.{length, take};
-ghost use Rattle.octets.specs.Bytes.{same};
-ghost use Rattle.distinct.specs.Distinct.{nameAt, NameFits, NamesFit, repeats};
-ghost use Rattle.distinct.specs.Chain.{hashOf, NoLinks, Falling, Walked, Table, Placed};
-
-fn wide8(x: u8) -> usize
-    ensures { λ r. ⌜ (r ≡ x) × (r < 256) ⌝ }
-{
-    x as usize
-}
+ghost use Rattle.distinct.specs.Distinct.{NamesFit, repeats};
+ghost use Rattle.distinct.specs.Chain.{NoLinks, Falling, Walked, Table, Placed};
 
 fn wide16(x: u16) -> usize
     ensures { λ r. ⌜ (r ≡ x) × (r < 65536) ⌝ }
@@ -35,49 +28,6 @@ pub fn no_links() -> [u16; 3449]
     [0u16; 3449]
 }
 
-// The name of the record that starts at a place.
-fn name_at<'a>(s: &'a [u8], at: usize) -> &'a [u8]
-    requires { ⌜ NameFits (now s) at ⌝ }
-    ensures { λ r. ⌜ now r ≡ nameAt (now (s .entry)) at ⌝ }
-{
-    let start = at + 1;
-    let end = start + wide8(s[at]);
-    &s[start..end]
-}
-
-// Whether the record that starts at a place has a name: its length byte is compared first.
-fn has_name(s: &[u8], at: usize, name: &[u8]) -> bool
-    requires { ⌜ NameFits (now s) at ⌝ }
-    ensures { λ r. ⌜ r ≡ same (nameAt (now (s .entry)) at) (now (name .entry)) ⌝ }
-{
-    let n = wide8(s[at]);
-    if n != name.len() {
-        return false;
-    }
-    let start = at + 1;
-    let mut i = 0;
-    while i < n {
-        if s[start + i] != name[i] {
-            return false;
-        }
-        i += 1;
-    }
-    true
-}
-
-// The chain of a name.
-fn hash_of(name: &[u8]) -> usize
-    ensures { λ r. ⌜ (r ≡ hashOf (now (name .entry))) × (r < 4096) ⌝ }
-{
-    let mut h: usize = 0;
-    let mut i = 0;
-    while i < name.len() {
-        h = (h + wide8(name[i])) * 2654435769 % 4294967296;
-        i += 1;
-    }
-    h / 1048576
-}
-
 // The link to the record that has a name, on the way from a link; 0 where there is none.
 fn in_chain(s: &[u8], starts: &[u16; 3449], next: &[u16; 3449], from: u16, name: &[u8]) -> usize
     requires { ⌜ (from ≤ 3449) × NamesFit (now s) (now starts) from × Falling (now next) ⌝ }
@@ -87,7 +37,7 @@ fn in_chain(s: &[u8], starts: &[u16; 3449], next: &[u16; 3449], from: u16, name:
     while 0 < k {
         let j = k - 1;
         let a = wide16(starts[j]);
-        if has_name(s, a, name) {
+        if sheet_name::has_name(s, a, name) {
             return k;
         }
         k = wide16(next[j]);
@@ -112,8 +62,8 @@ pub fn repeats(
     let mut i: usize = 0;
     while i < n {
         let p = wide16(starts[i]);
-        let name = name_at(s, p);
-        let h = hash_of(name);
+        let name = sheet_name::name_at(s, p);
+        let h = sheet_name::hash_of(name);
         let first = heads[h];
         if in_chain(s, starts, next, first, name) != 0 {
             return true;
@@ -136,6 +86,6 @@ pub fn place_of(
     requires { ⌜ ((n : ℕ) × Table (now s) (now starts) (now heads) (now next) n) ⌝ }
     ensures { λ r. ⌜ ((n : ℕ) → Table (now (s .entry)) (now (starts .entry)) (now (heads .entry)) (now (next .entry)) n → Placed (now (s .entry)) (now (starts .entry)) n (now (name .entry)) r) ⌝ }
 {
-    let h = hash_of(name);
+    let h = sheet_name::hash_of(name);
     in_chain(s, starts, next, heads[h], name)
 }

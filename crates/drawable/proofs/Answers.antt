@@ -14,7 +14,7 @@ use Rattle.integer.specs.Laws.{abs-+, abs--, abs-*}
 use Rattle.power.specs.Choice.{powerOf}
 use Rattle.power.proofs.Kelvin.{power-small}
 use Rattle.quotient.specs.Range.{Between}
-use Rattle.fit.specs.Fit.{straight}
+use Rattle.proportion.specs.Straight.{straight}
 use Rattle.quotient.proofs.Floors.{quotient-upto}
 use Rattle.bands.specs.declared.Region.{Region}
 use Rattle.bands.specs.declared.Region.the-variants.{Refused, Perfect, Fitted}
@@ -44,7 +44,8 @@ use Rattle.air.proofs.Claims.{y-range}
 use Rattle.air.proofs.Allowed.{lawful, temperature-logs, entropy-logs}
 use Rattle.air.proofs.Sizes.{entropy-most}
 use Rattle.temperature.specs.Ready.{TemperatureReady}
-use Rattle.temperature.proofs.Laws.{passes, kelvin-range, dividable}
+use Rattle.temperature_fit.proofs.Passes.{passes, kelvin-range}
+use Rattle.temperature.proofs.Laws.{dividable}
 use Rattle.entropy.specs.Ready.{PlaceReady}
 use Rattle.entropy.proofs.Laws.{strip-ready, place-ready}
 use Rattle.mark.specs.Mark.{Drawable, CanDraw, Marked}

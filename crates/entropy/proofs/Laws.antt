@@ -12,7 +12,7 @@ use Rattle.integer.specs.Tests.{is-true}
 use Rattle.logarithm.specs.Log.{IsLog}
 use Rattle.logarithm.proofs.Range.{log-least, log-most}
 use Rattle.quotient.specs.Range.{Between}
-use Rattle.fit.specs.Fit.{straight}
+use Rattle.proportion.specs.Straight.{straight}
 use Rattle.bands.specs.declared.Strip.{Strip}
 use Rattle.bands.specs.declared.Strip.the-variants.{Clear}
 use Rattle.bands.specs.declared.Strip.the-variants as strip

@@ -3,7 +3,6 @@ use air::Answer;
 use air::Edges;
 use air::Ends;
 use air::Logs;
-use air::answers;
 use bands::Strip;
 ghost use mathlib.Core.Path.{_≡_};
 ghost use mathlib.Core.Option.{some};
@@ -29,10 +28,10 @@ fn entropy_at(y: i64, z: i64) -> i64
     ensures { λ r. ⌜ r ≡ entropyAt y z ⌝ }
 {
     if z <= 650000 {
-        return 67792004 + fit::entropy_rise(rise(y, z));
+        return 67792004 + proportion::entropy_rise(rise(y, z));
     }
     let band = bands::band_of(y);
-    fit::entropy_of_fit(bicubic::bicubic(tgas2_entropy::entropy_bicubic(band), y, z))
+    proportion::entropy_of_fit(bicubic::bicubic(tgas2_entropy::entropy_bicubic(band), y, z))
 }
 
 // Refusal 12 of an entropy.
@@ -76,7 +75,7 @@ fn joined(logs: Logs, a: i64, b: i64) -> Answer
     if above_limit(b, z) {
         return beyond(logs);
     }
-    let s = fit::straight(a, b, entropy_at(a, z), entropy_at(b, z), y);
+    let s = proportion::straight(a, b, entropy_at(a, z), entropy_at(b, z), y);
     answers::shown(b'S', logs, Edges::Unfitted, Ends::Unjoined, s)
 }
 
@@ -96,14 +95,14 @@ fn entropy_from(logs: Logs) -> Answer
 pub fn entropy(e: u64, d: u64) -> Answer
     ensures { λ r. ⌜ held r ≡ heldBy chosen (some entropyProperty) e d ⌝ }
 {
-    if !air::within(7840840, 1000000000000, e) {
+    if !answers::within(7840840, 1000000000000, e) {
         return Answer::Refused(10);
     }
-    if !air::within(12920, 129200000000000, d) {
+    if !answers::within(12920, 129200000000000, d) {
         return Answer::Refused(11);
     }
-    let y = logarithm::log10_ratio(d, 129200000000);
-    let z = logarithm::log10_ratio(e, 78408400);
+    let y = log10::log10_ratio(d, 129200000000);
+    let z = log10::log10_ratio(e, 78408400);
     entropy_from(Logs {
         triple: false,
         x: 0,

@@ -1,16 +1,12 @@
--- Quotients are rounded down: where the exact value lies between -1 and 0 they give -1, and toward zero they would give 0.
+-- The part of B is rounded down: where its exact value lies between -1 and 0 it is -1, and toward zero it would be 0.
 use mathlib.Core.List.{[], _∷_}
 use mathlib.Core.Path.{_≡_, refl}
 use lib.IntN.{pos, negsuc}
 use Rattle.quotient.specs.Mul.{mul}
 use Rattle.bicubic.specs.Bicubic.{gas1, gas2, gas3, gas4, bicubic}
-use Rattle.fit.specs.Fit.{joint, fitted, straight}
+use Rattle.fit.specs.Fit.{joint, fitted}
 
 -- A is 0, B is -1, the weight is one unit
 pub fitted-down : fitted (joint [] (negsuc 0 ∷ []) (record { terms = [] })) (pos 0) (pos 0) (pos 1) ≡ negsuc 0
 unfolding bicubic gas1 gas2 gas3 gas4 mul
 fitted-down = refl
-
--- half way from 0 to -1
-pub straight-down : straight (pos 0) (pos 2) (pos 0) (negsuc 0) (pos 1) ≡ negsuc 0
-straight-down = refl

@@ -3,7 +3,7 @@
 use mathlib.Core.Path.{_≡_}
 use mathlib.Core.List.{List, []}
 use Prim.Native.Nat.{ℕ}
-use lib.IntN.{ℤ, pos, natAbs, _+ℤ_, _-ℤ_, _*ℤ_}
+use lib.IntN.{ℤ, pos, _+ℤ_, _*ℤ_}
 use lib.Signed.{shrZ}
 use Rattle.bicubic.specs.Bicubic.{bicubic, exponent}
 use Rattle.weight.specs.Weight.{IsWeight, units}
@@ -39,7 +39,3 @@ Weighs k (joint a b t) y z w = IsWeight k (exponent (t .terms) y z) w
 abbrev pub fitted : Piece → ℤ → ℤ → ℤ → ℤ
 fitted (alone a) y z w = bicubic a y z
 fitted (joint a b t) y z w = bicubic a y z +ℤ shrZ (w *ℤ bicubic b y z) units
-
--- document 01, Entropy, the joins: the straight line from low at a to high at b, at y; what is added to low is rounded down
-abbrev pub straight : ℤ → ℤ → ℤ → ℤ → ℤ → ℤ
-straight a b low high y = low +ℤ shrZ ((high -ℤ low) *ℤ (y -ℤ a)) (natAbs (b -ℤ a))

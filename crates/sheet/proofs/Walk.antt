@@ -8,7 +8,8 @@ use borrow.Author.Tests.{ne-eqb}
 use lib.Dec.{eqb}
 use lib.ListN.{length, drop}
 use lib.Seq.{append-snoc}
-use Rattle.distinct.specs.Distinct.{nameAt, seenIn, repeats}
+use Rattle.sheet_name.specs.Name.{nameAt}
+use Rattle.distinct.specs.Distinct.{seenIn, repeats}
 use Rattle.octets.specs.Bytes.{same, part}
 use Rattle.sheet_record.specs.Layout.{Layout}
 use Rattle.sheet_record.specs.Front.{Fields, Front, bad, front, frontOf, recordAt, past, nameIn}

@@ -52,11 +52,11 @@ fn walk_records(s: &[u8], records: usize, starts: &mut [u16; 3449]) -> Tally
     requires { ⌜ (length (now s) ≤ 65536) × (length (now starts) ≡ 3449) ⌝ }
     ensures { λ r. ⌜ Walked (now (s .entry)) records (r .at) (r .left) (r .count) (now (starts .exit)) ⌝ }
 {
-    let mut r = sheet_record::make(s, 7, records);
+    let mut r = sheet_reader::make(s, 7, records);
     let mut i: usize = 0;
-    while sheet_record::more(r) {
+    while sheet_reader::more(r) {
         keep(starts, i, r.at);
-        r = sheet_record::next(r);
+        r = sheet_reader::next(r);
         i += 1;
     }
     Tally {

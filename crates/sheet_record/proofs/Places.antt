@@ -13,8 +13,7 @@ use borrow.Author.Tests.{leb-true, leb-false, ltb-false, eqb-false}
 use Rattle.kind.specs.Kind.{kindOf, isKnown}
 use Rattle.octets.specs.Bytes.{numberAt}
 use Rattle.sheet_record.specs.Layout.{Layout, layoutIn, orPlain, plainLayout}
-use Rattle.sheet_record.specs.Front.{Fields, Front, bad, front, frontOf, fieldsOf, past}
-use Rattle.sheet_record.specs.Front.{faultOf}
+use Rattle.sheet_record.specs.Front.{Fields, Front, bad, front, frontOf, fieldsOf, past, faultOf}
 use Rattle.octets.proofs.Numbers.{number-drop}
 
 -- the fields of a record that has a tail of t bytes

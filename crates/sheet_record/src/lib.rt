@@ -1,11 +1,10 @@
-// A record of the state sheet: its fields by their places, and the reader that goes from one record to the next.
+// A record of the state sheet: its fields by their places, and where the next one stands.
 ghost use mathlib.Core.Path.{_≡_};
 ghost use mathlib.Core.Bool.{true};
 ghost use Prim.Native.Nat.{_+_, _<_, _≤_};
 ghost use lib.ListN.{length, getD, drop};
 ghost use Rattle.octets.specs.Bytes.{numberAt};
 ghost use Rattle.sheet_record.specs.Layout.{layoutIn};
-ghost use Rattle.sheet_record.specs.Reading.{readOn};
 ghost use Rattle.sheet_record.specs.Front.{frontOf, faultOf, behind, entryAt, standsAt, endAt};
 
 // One record: where its name stands, its kind byte and its two values.
@@ -87,7 +86,7 @@ pub fn entry_at(s: &[u8], at: usize, n: usize) -> Record
 }
 
 // Whether a record stands at a place where so many are left.
-fn stands_at(s: &[u8], at: usize, left: usize) -> bool
+pub fn stands_at(s: &[u8], at: usize, left: usize) -> bool
     ensures { λ r. ⌜ r ≡ standsAt (layoutIn (now (s .entry))) (now (s .entry)) at left ⌝ }
 {
     if left == 0 {
@@ -97,7 +96,7 @@ fn stands_at(s: &[u8], at: usize, left: usize) -> bool
 }
 
 // The place behind the record that stands at a place.
-fn past_at(s: &[u8], at: usize, left: usize) -> usize
+pub fn past_at(s: &[u8], at: usize, left: usize) -> usize
     requires { ⌜ standsAt (layoutIn (now s)) (now s) at left ≡ true ⌝ }
     ensures { λ r. ⌜ r ≡ behind at (frontOf (layoutIn (now (s .entry))) (drop at (now (s .entry)))) ⌝ }
 {
@@ -115,37 +114,4 @@ pub fn end_at(s: &[u8], at: usize, left: usize) -> u32
         return 4;
     }
     fault_at(s, at)
-}
-
-// The sheet reader: the sheet, the place of its next record, and how many are left.
-pub struct Reader<'a> {
-    pub sheet: &'a [u8],
-    pub at: usize,
-    pub left: usize,
-}
-
-// A reader at a place of a sheet.
-pub fn make<'a>(sheet: &'a [u8], at: usize, left: usize) -> Reader<'a>
-    ensures { λ r. ⌜ (r .sheet ≡ sheet .entry) × (r .at ≡ at) × (r .left ≡ left) ⌝ }
-{
-    Reader { sheet, at, left }
-}
-
-// Whether a record stands where the reader is.
-pub fn more<'a>(r: Reader<'a>) -> bool
-    ensures { λ b. ⌜ b ≡ standsAt (layoutIn (now (r .entry .sheet))) (now (r .entry .sheet)) (r .entry .at) (r .entry .left) ⌝ }
-{
-    stands_at(r.sheet, r.at, r.left)
-}
-
-// The reader behind the record that stands where it is.
-pub fn next<'a>(r: Reader<'a>) -> Reader<'a>
-    requires { ⌜ standsAt (layoutIn (now (r .sheet))) (now (r .sheet)) (r .at) (r .left) ≡ true ⌝ }
-    ensures { λ q. ⌜ q ≡ readOn (r .entry) ⌝ }
-{
-    Reader {
-        sheet: r.sheet,
-        at: past_at(r.sheet, r.at, r.left),
-        left: r.left - 1,
-    }
 }

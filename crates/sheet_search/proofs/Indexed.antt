@@ -6,8 +6,8 @@ use Prim.Native.Nat.{ℕ, zero, suc, _+_, _-_, _≤_, _<_}
 use native.Mathlib.Omega.{arith}
 use lib.ListN.{length, getD, drop}
 use Rattle.distinct.specs.Chain.{Placed}
-use Rattle.distinct.specs.Distinct.{nameAt}
-use Rattle.distinct.proofs.Same.{same-equal}
+use Rattle.sheet_name.specs.Name.{nameAt}
+use Rattle.sheet_name.proofs.Same.{same-equal}
 use Rattle.octets.specs.Bytes.{numberAt, part, same}
 use Rattle.sheet_record.specs.Layout.{Layout, layoutOf, layoutIn}
 use Rattle.sheet_record.specs.Front.{Front, bad, front, frontOf, recordAt, past, nameIn, entryAt}

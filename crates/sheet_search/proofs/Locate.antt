@@ -17,7 +17,7 @@ use Rattle.sheet.specs.Sheet.{Sheet, refused, records, seen, walk, withLayout, 
 use Rattle.sheet_search.specs.declared.Lookup.the-variants.{Hit, Miss}
 use Rattle.sheet_record.specs.declared.Record.{Record}
 use Rattle.sheet_record.proofs.Places.{Sound, View, reads, view, or-false}
-use Rattle.distinct.proofs.Same.{same-refl}
+use Rattle.sheet_name.proofs.Same.{same-refl}
 
 -- what is found stays found where more records follow
 still : (s : List ℕ) (rs ts : List Record) (name : List ℕ) (r : Record) → findIn s rs name ≡ Hit r → findIn s (rs ++ ts) name ≡ Hit r

@@ -11,7 +11,7 @@ use Rattle.sheet.specs.Sheet.{Sheet, refused, records, sheetOf}
 use Rattle.sheet_search.specs.declared.Lookup.{Lookup}
 use Rattle.sheet_search.specs.declared.Lookup.the-variants.{Hit, Miss}
 use Rattle.sheet_record.specs.declared.Record.{Record}
-use Rattle.distinct.proofs.Same.{same-equal}
+use Rattle.sheet_name.proofs.Same.{same-equal}
 use Rattle.sheet_search.proofs.Locate.{finds}
 
 -- what is found among records has the name, and is one of them

@@ -1,13 +1,11 @@
 -- What the steps of a temperature's answer amount to, over the definitions.
-use mathlib.Core.Bool.{Bool, true, false, true≢false, _||_}
-use mathlib.Core.Path.{_≡_, refl, subst}
-use Prim.Native.Nat.{ℕ, _/_, _≤_}
-use native.Mathlib.Nat.{div-le-of-le-mul}
+use mathlib.Core.Bool.{false}
+use mathlib.Core.Path.{_≡_, subst}
+use Prim.Native.Nat.{ℕ, _≤_}
 use native.Mathlib.Omega.{arith}
-use lib.Dec.{T, lit≤}
+use lib.Dec.{lit≤}
 use lib.IntN.{ℤ, pos, negsuc, natAbs}
-use lib.Signed.{_≤ℤ_, ltZ, shrZ, nonNeg}
-use Rattle.integer.specs.Z.{≤→}
+use lib.Signed.{_≤ℤ_, ltZ}
 use Rattle.integer.specs.Tests.{test-le, test-not-lt}
 use Rattle.integer.specs.Laws.{≤ℤ-trans}
 use Rattle.logarithm.proofs.Quotient.{ratio-small}
@@ -16,33 +14,10 @@ use Rattle.bands.proofs.Regions.{IsPerfect}
 use Rattle.perfect.specs.Perfect.{Dividable}
 use Rattle.air.specs.declared.Logs.{Logs}
 use Rattle.air.specs.Quantities.{P0, D0}
-use Rattle.air.specs.Temperature.{beyondFit}
 use Rattle.air.proofs.Tests.{and-left, and-right, abs-of}
+use Rattle.temperature_fit.proofs.Passes.{or-left, or-right}
 use Rattle.temperature.specs.Ready.{TemperatureReady}
 
--- ---- a test of two parts that is false
-pub or-left : (a b : Bool) → (a || b) ≡ false → a ≡ false
-or-left true b e = e
-or-left false b e = refl
-
-pub or-right : (a b : Bool) → (a || b) ≡ false → b ≡ false
-or-right true b e = absurd (true≢false e)
-or-right false b e = e
-
--- ---- a fit that 13 lets through
-pub record Passes (g : ℤ) : Type 0 where
-  pub plain : T (nonNeg g)
-  pub most : natAbs g ≤ 19600000000
-  pub millionths : natAbs (shrZ g 10000) ≡ natAbs g / 10000
-
-pub passes : (g : ℤ) → beyondFit g ≡ false → Passes g
-passes (pos n) e = record { plain = tt; most = omega (arith, ≤→ (test-not-lt {a = pos 19600000000} {b = pos n} (or-right (ltZ (pos n) (pos 0)) (ltZ (pos 19600000000) (pos n)) e))); millionths = refl }
-passes (negsuc n) e = absurd (true≢false e)
-
-pub kelvin-range : (g : ℤ) → Passes g → natAbs g / 10000 ≤ 1960000
-kelvin-range g h = div-le-of-le-mul 10000 (omega (arith, h .most))
-
--- ---- from the logarithms
 pub window-most : (z : ℤ) → beyondWindow z ≡ false → natAbs z ≤ 3000000
 window-most z e =
     abs-of 999999 3000000 z

@@ -7,8 +7,7 @@ ghost use Prim.Native.Nat.{_<_};
 ghost use Rattle.fit.specs.Fit.{alone, joint};
 ghost use Rattle.fit.specs.Edge.{pieceOf};
 ghost use Rattle.bands.specs.Region.{pieceCount};
-ghost use Rattle.tgas1_temperature.specs.Pieces.{temperaturePiece};
-ghost use Rattle.tgas1_temperature.specs.Pieces.{low1-A, low2-A, low2-B, low2-q, low3-A, low3-B, low3-q, low4-A, low4-B, low4-q, middle1-A, middle2-A, middle2-B, middle2-q, middle3-A, middle3-B, middle3-q, middle4-A, middle4-B, middle4-q, high1-A, high2-A, high2-B, high2-q, high3-A, high3-B, high3-q};
+ghost use Rattle.tgas1_temperature.specs.Pieces.{temperaturePiece, low1-A, low2-A, low2-B, low2-q, low3-A, low3-B, low3-q, low4-A, low4-B, low4-q, middle1-A, middle2-A, middle2-B, middle2-q, middle3-A, middle3-B, middle3-q, middle4-A, middle4-B, middle4-q, high1-A, high2-A, high2-B, high2-q, high3-A, high3-B, high3-q};
 
 // A band's i-th piece.
 pub fn piece(band: Band, i: usize) -> Coefficients

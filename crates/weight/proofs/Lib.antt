@@ -7,7 +7,5 @@ pub mod Table
 pub mod Inverse
 pub mod Exponential
 pub mod Near
-pub mod Digits
 pub mod Sizes
-pub mod Machine
 pub mod Pins

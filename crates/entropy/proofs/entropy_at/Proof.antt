@@ -14,7 +14,7 @@ use Rattle.quotient.specs.Range.{In}
 use Rattle.bicubic.specs.Bicubic.{bicubic}
 use Rattle.integer.proofs.Machine.{back, back-ok, fits64}
 use Rattle.quotient.proofs.Machine.{in-back, in-ok}
-use Rattle.fit.proofs.Scaling.{entropy-rise-size}
+use Rattle.proportion.proofs.Scaling.{entropy-rise-size}
 use Rattle.bands.specs.Bands.{bandOf}
 use Rattle.tgas2_entropy.specs.Entropy.{entropyCoefficients}
 use Rattle.tgas2_entropy.proofs.Sizes.{entropy-small}

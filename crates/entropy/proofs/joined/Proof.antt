@@ -1,7 +1,7 @@
 -- `entropy::joined` is the answer inside a strip: both edges within their limits, and the straight line.
 use mathlib.Core.Path.{_≡_, sym, _∙_}
 use borrow.Author.Needs.{needs}
-use Rattle.fit.specs.Fit.{straight}
+use Rattle.proportion.specs.Straight.{straight}
 use Rattle.integer.proofs.Machine.{back, back-ok}
 use Rattle.quotient.proofs.Machine.{in-back, in-ok}
 use Rattle.air.specs.Entropy.{entropyAt, aboveLimit}

@@ -51,24 +51,24 @@ use denote.Exit.{yes}
 use denote.Triple.Clauses.{ensured, lasts}
 use Rattle.sheet_record.specs.Layout.{layoutIn}
 use Rattle.sheet_record.specs.Front.{standsAt}
-use Rattle.sheet_record.specs.Reading.{readOn}
-use Rattle.sheet_record.specs.declared.Reader.{Reader}
-use Rattle.sheet_record.proofs.Lent as lent
-use Rattle.sheet_record.proofs.Lent.{fat-pointer, twice, passes}
-use Rattle.sheet_record.proofs.Reader as T
-use Rattle.sheet_record.proofs.Reader.Laws as T′
-use Rattle.sheet_record.proofs.make as make
-use Rattle.sheet_record.proofs.make.Symbol as make-def
-use Rattle.sheet_record.proofs.make.Symbol.{name as #make}
-use Rattle.sheet_record.proofs.make.Met as make-thm
-use Rattle.sheet_record.proofs.more as more
-use Rattle.sheet_record.proofs.more.Symbol as more-def
-use Rattle.sheet_record.proofs.more.Symbol.{name as #more}
-use Rattle.sheet_record.proofs.more.Met as more-thm
-use Rattle.sheet_record.proofs.next as next
-use Rattle.sheet_record.proofs.next.Symbol as next-def
-use Rattle.sheet_record.proofs.next.Symbol.{name as #next}
-use Rattle.sheet_record.proofs.next.Met as next-thm
+use Rattle.sheet_reader.specs.Reading.{readOn}
+use Rattle.sheet_reader.specs.declared.Reader.{Reader}
+use Rattle.sheet_reader.proofs.Lent as lent
+use Rattle.sheet_reader.proofs.Lent.{fat-pointer, twice, passes}
+use Rattle.sheet_reader.proofs.Reader as T
+use Rattle.sheet_reader.proofs.Reader.Laws as T′
+use Rattle.sheet_reader.proofs.make as make
+use Rattle.sheet_reader.proofs.make.Symbol as make-def
+use Rattle.sheet_reader.proofs.make.Symbol.{name as #make}
+use Rattle.sheet_reader.proofs.make.Met as make-thm
+use Rattle.sheet_reader.proofs.more as more
+use Rattle.sheet_reader.proofs.more.Symbol as more-def
+use Rattle.sheet_reader.proofs.more.Symbol.{name as #more}
+use Rattle.sheet_reader.proofs.more.Met as more-thm
+use Rattle.sheet_reader.proofs.next as next
+use Rattle.sheet_reader.proofs.next.Symbol as next-def
+use Rattle.sheet_reader.proofs.next.Symbol.{name as #next}
+use Rattle.sheet_reader.proofs.next.Met as next-thm
 use Rattle.sheet.specs.Structure.{Walked}
 use Rattle.sheet.specs.declared.Tally.{Tally}
 use Rattle.sheet.proofs.Turns.{Walking, walking-begins, walking-ends, walking-goes, Goes, goes, stops}
@@ -440,7 +440,7 @@ walk-records-spec 𝓤 H 𝓜 𝓖 𝓡 =
     entered 𝓤 H (tripleOf 𝓤 H (𝓖 .A) walks.signature (walks.spec 𝓤 H (𝓖 .A) (𝓜 .mem) (𝓡 .run)))
     (tables 𝓤 H 𝓜 𝓡 code.env .C) (tables 𝓤 H 𝓜 𝓡 code.env .Λ) #walk-records code.function (code.unfolded 𝓤 H 𝓜 𝓡)
     (walk-records-meets 𝓤 H (𝓖 .A) (givenOf 𝓤 H 𝓜 𝓖) (𝓜 .mem) (𝓡 .run) (tablesOf 𝓤 H 𝓜 (tables 𝓤 H 𝓜 𝓡 code.env))
-    (cited 𝓤 H (Make 𝓤 H (𝓖 .A) (𝓜 .mem) (𝓡 .run)) 𝓜 𝓡 code.env #make make-def.routine code.calls-sheet-record·make (make-thm.met 𝓤 H 𝓜 𝓖 𝓡))
-    (cited 𝓤 H (More 𝓤 H (𝓖 .A) (𝓜 .mem) (𝓡 .run)) 𝓜 𝓡 code.env #more more-def.routine code.calls-sheet-record·more (more-thm.met 𝓤 H 𝓜 𝓖 𝓡))
-    (cited 𝓤 H (Next 𝓤 H (𝓖 .A) (𝓜 .mem) (𝓡 .run)) 𝓜 𝓡 code.env #next next-def.routine code.calls-sheet-record·next (next-thm.met 𝓤 H 𝓜 𝓖 𝓡))
+    (cited 𝓤 H (Make 𝓤 H (𝓖 .A) (𝓜 .mem) (𝓡 .run)) 𝓜 𝓡 code.env #make make-def.routine code.calls-sheet-reader·make (make-thm.met 𝓤 H 𝓜 𝓖 𝓡))
+    (cited 𝓤 H (More 𝓤 H (𝓖 .A) (𝓜 .mem) (𝓡 .run)) 𝓜 𝓡 code.env #more more-def.routine code.calls-sheet-reader·more (more-thm.met 𝓤 H 𝓜 𝓖 𝓡))
+    (cited 𝓤 H (Next 𝓤 H (𝓖 .A) (𝓜 .mem) (𝓡 .run)) 𝓜 𝓡 code.env #next next-def.routine code.calls-sheet-reader·next (next-thm.met 𝓤 H 𝓜 𝓖 𝓡))
     (cited 𝓤 H (Keep 𝓤 H (𝓖 .A) (𝓜 .mem) (𝓡 .run)) 𝓜 𝓡 code.env #keep keep-def.routine code.calls-sheet·keep (keep-thm.met 𝓤 H 𝓜 𝓖 𝓡)))

@@ -1,0 +1,3 @@
+pub mod BelowZero
+pub mod Scaling
+pub mod Line

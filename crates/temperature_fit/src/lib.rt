@@ -1,0 +1,37 @@
+// A temperature's fit at a place: G and W, whether 13 refuses it, and the temperature that it makes.
+use bands::Band;
+use fit::Edge;
+ghost use mathlib.Core.Bool.{false};
+ghost use mathlib.Core.Path.{_≡_};
+ghost use Rattle.tgas1_temperature.specs.Pieces.{temperaturePiece};
+ghost use Rattle.air.specs.Places.{edgeBy};
+ghost use Rattle.air.specs.Temperature.{beyondFit};
+ghost use Rattle.air.specs.Choices.{chosen};
+ghost use Rattle.air.specs.State.{kelvinBy};
+ghost use Rattle.temperature_fit.specs.Ready.{PieceReady};
+
+// The fit of a band's i-th piece at Y and Z.
+pub fn fit_at(band: Band, i: usize, y: i64, z: i64) -> Edge
+    requires { ⌜ PieceReady band i y z ⌝ }
+    ensures { λ r. ⌜ r ≡ edgeBy chosen (temperaturePiece band i) y z ⌝ }
+{
+    fit::edge_at(tgas1_temperature::piece(band, i), y, z)
+}
+
+// Whether a fit gets 13.
+pub fn is_beyond(fit: i64) -> bool
+    ensures { λ r. ⌜ r ≡ beyondFit fit ⌝ }
+{
+    if fit < 0 {
+        return true;
+    }
+    19600000000 < fit
+}
+
+// The temperature of a fit that does not.
+pub fn kelvin_of(fit: i64) -> i64
+    requires { ⌜ beyondFit fit ≡ false ⌝ }
+    ensures { λ r. ⌜ r ≡ kelvinBy chosen fit ⌝ }
+{
+    kelvin::kelvin_power(fit as u64 / 10000) as i64
+}
