@@ -46,7 +46,7 @@ use Rattle.air.proofs.Sizes.{entropy-most}
 use Rattle.temperature.specs.Ready.{TemperatureReady}
 use Rattle.temperature_fit.proofs.Passes.{passes, kelvin-range}
 use Rattle.temperature.proofs.Laws.{dividable}
-use Rattle.entropy.specs.Ready.{PlaceReady}
+use Rattle.entropy_fit.specs.Ready.{PlaceReady}
 use Rattle.entropy.proofs.Laws.{strip-ready, place-ready}
 use Rattle.mark.specs.Mark.{Drawable, CanDraw, Marked}
 use Rattle.mark.proofs.Placed.{marked}

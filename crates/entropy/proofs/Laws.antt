@@ -25,7 +25,8 @@ use Rattle.air.specs.Held.{Held, judges, shows}
 use Rattle.air.specs.Entropy.{letterS, entropyAt, aboveLimit, entropyIn}
 use Rattle.air.proofs.Tests.{and-left, and-right}
 use Rattle.air.proofs.Claims.{y-most}
-use Rattle.entropy.specs.Ready.{PlaceReady, JoinReady}
+use Rattle.entropy_fit.specs.Ready.{PlaceReady}
+use Rattle.entropy.specs.Ready.{JoinReady}
 
 -- ---- the answer outside a strip and inside one
 module _ (l : Logs) where

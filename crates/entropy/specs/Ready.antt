@@ -1,12 +1,7 @@
 -- What the steps of the answer may take for granted: where their numbers lie.
-use Prim.Native.Nat.{ℕ, _≤_}
-use lib.IntN.{ℤ, natAbs}
+use lib.IntN.{ℤ}
 use Rattle.quotient.specs.Range.{Between}
-
--- a Y and a Z that an entropy is taken at
-pub record PlaceReady (y z : ℤ) : Type 0 where
-  pub y-most : natAbs y ≤ 7000000
-  pub z-most : natAbs z ≤ 5000000
+use Rattle.entropy_fit.specs.Ready.{PlaceReady}
 
 -- a strip's two edges around a Y, and a Z
 pub record JoinReady (a b y z : ℤ) : Type 0 where

@@ -9,43 +9,17 @@ ghost use mathlib.Core.Option.{some};
 ghost use Rattle.air.specs.declared.Edges.the-variants.{Unfitted};
 ghost use Rattle.bands.specs.declared.Strip.the-variants.{Clear, Between};
 ghost use Rattle.air.specs.Held.{held, judges};
-ghost use Rattle.air.specs.Entropy.{letterS, rise, entropyAt, aboveLimit, entropyIn, entropyFrom};
+ghost use Rattle.air.specs.Entropy.{letterS, entropyIn, entropyFrom};
 ghost use Rattle.air.specs.Choices.{chosen};
 ghost use Rattle.air.specs.State.{entropyProperty, heldBy};
-ghost use Rattle.entropy.specs.Ready.{PlaceReady, JoinReady};
-
-// m of the perfect entropy.
-fn rise(y: i64, z: i64) -> i64
-    requires { ⌜ PlaceReady y z ⌝ }
-    ensures { λ r. ⌜ r ≡ rise y z ⌝ }
-{
-    5 * (z - 400000) - 2 * y
-}
-
-// The entropy at a place, with no join.
-fn entropy_at(y: i64, z: i64) -> i64
-    requires { ⌜ PlaceReady y z ⌝ }
-    ensures { λ r. ⌜ r ≡ entropyAt y z ⌝ }
-{
-    if z <= 650000 {
-        return 67792004 + proportion::entropy_rise(rise(y, z));
-    }
-    let band = bands::band_of(y);
-    proportion::entropy_of_fit(bicubic::bicubic(tgas2_entropy::entropy_bicubic(band), y, z))
-}
+ghost use Rattle.entropy_fit.specs.Ready.{PlaceReady};
+ghost use Rattle.entropy.specs.Ready.{JoinReady};
 
 // Refusal 12 of an entropy.
 fn beyond(logs: Logs) -> Answer
     ensures { λ r. ⌜ held r ≡ judges 12 letterS logs Unfitted ⌝ }
 {
     answers::judged(b'S', 12, logs, Edges::Unfitted)
-}
-
-// Whether Z is above the limit of the band of Y.
-fn above_limit(y: i64, z: i64) -> bool
-    ensures { λ r. ⌜ r ≡ aboveLimit y z ⌝ }
-{
-    tgas2_entropy::entropy_limit(bands::band_of(y)) < z
 }
 
 // An entropy's answer outside the strips.
@@ -55,10 +29,10 @@ fn unjoined(logs: Logs) -> Answer
 {
     let y = logs.y;
     let z = logs.z;
-    if above_limit(y, z) {
+    if entropy_fit::above_limit(y, z) {
         return beyond(logs);
     }
-    let s = entropy_at(y, z);
+    let s = entropy_fit::entropy_at(y, z);
     answers::shown(b'S', logs, Edges::Unfitted, Ends::Unjoined, s)
 }
 
@@ -69,13 +43,19 @@ fn joined(logs: Logs, a: i64, b: i64) -> Answer
 {
     let y = logs.y;
     let z = logs.z;
-    if above_limit(a, z) {
+    if entropy_fit::above_limit(a, z) {
         return beyond(logs);
     }
-    if above_limit(b, z) {
+    if entropy_fit::above_limit(b, z) {
         return beyond(logs);
     }
-    let s = proportion::straight(a, b, entropy_at(a, z), entropy_at(b, z), y);
+    let s = proportion::straight(
+        a,
+        b,
+        entropy_fit::entropy_at(a, z),
+        entropy_fit::entropy_at(b, z),
+        y,
+    );
     answers::shown(b'S', logs, Edges::Unfitted, Ends::Unjoined, s)
 }
 

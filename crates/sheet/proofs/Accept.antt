@@ -12,8 +12,10 @@ use Rattle.distinct.specs.Distinct.{repeats}
 use Rattle.octets.specs.Bytes.{numberAt}
 use Rattle.sheet_record.specs.Layout.{Layout, layoutOf, layoutIn, orPlain}
 use Rattle.sheet_record.specs.Front.{endAt}
-use Rattle.sheet.specs.Sheet.{Sheet, refused, records, isMarked, withLayout, sheetBy, sheetOf, numberOf, Accepted}
-use Rattle.sheet.specs.Structure.{versionFault, headFault, faultFrom, placesFrom, Walked}
+use Rattle.sheet_head.specs.Head.{isMarked}
+use Rattle.sheet.specs.Sheet.{Sheet, refused, records, withLayout, sheetBy, sheetOf, numberOf, Accepted}
+use Rattle.sheet_head.specs.Head.{versionFault, headFault}
+use Rattle.sheet.specs.Structure.{faultFrom, placesFrom, Walked}
 use Rattle.sheet_record.specs.declared.Record.{Record}
 use Rattle.sheet_record.proofs.Places.{or-false}
 use Rattle.sheet.proofs.Walk.{recordsFrom, twice, names, verdict, walk-verdict, repeats-names}

@@ -1,4 +1,3 @@
-pub mod Head
 pub mod Walk
 pub mod Accept
 pub mod Turns

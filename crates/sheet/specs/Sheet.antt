@@ -6,10 +6,11 @@ use mathlib.Core.Path.{_≡_}
 use Prim.Native.Nat.{ℕ, zero, suc}
 use lib.Dec.{ltb, eqb}
 use lib.ListN.{length, drop}
-use Rattle.octets.specs.Bytes.{numberAt, part, same}
+use Rattle.octets.specs.Bytes.{numberAt, same}
 use Rattle.sheet_record.specs.Layout.{Layout, layoutOf}
 use Rattle.sheet_record.specs.Front.{bad, front, frontOf, recordAt, past, nameIn}
 use Rattle.sheet_record.specs.declared.Record.{Record}
+use Rattle.sheet_head.specs.Head.{isMarked}
 
 -- a sheet's records, or the number of its first refusal
 pub data Sheet : Type 0 where
@@ -35,10 +36,6 @@ walk y s (suc n) at before =
 abbrev pub withLayout : List ℕ → Option Layout → Sheet
 withLayout s none = refused 3
 withLayout s (some y) = walk y s (numberAt 2 s 5) 7 []
-
--- the mark: the letters E, A, S
-abbrev pub isMarked : List ℕ → Bool
-isMarked s = same (part s 0 3) (69 ∷ 65 ∷ 83 ∷ [])
 
 -- document 01, table, sheet as a whole: 1 over 65,536 bytes, 2 under 7 bytes or without the mark, 3. `versions` are those that are read
 unfoldable pub sheetBy : (ℕ → Option Layout) → List ℕ → Sheet

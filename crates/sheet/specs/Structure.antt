@@ -1,27 +1,12 @@
--- The sheet as its check goes through it: the header, then the records without a look at their names, by places in the sheet.
-use mathlib.Core.Bool.{cond, not, _||_}
+-- The sheet as its check goes through it behind the header: the records without a look at their names, by places in the sheet.
+use mathlib.Core.Bool.{cond}
 use mathlib.Core.List.{List, [], _∷_}
-use mathlib.Core.Option.{Option, none, some}
 use mathlib.Core.Path.{_≡_}
 use Prim.Native.Nat.{ℕ, zero, suc, _≤_}
-use lib.Dec.{eqb, ltb}
+use lib.Dec.{eqb}
 use lib.ListN.{length, take, drop}
-use Rattle.octets.specs.Bytes.{numberAt}
-use Rattle.sheet_record.specs.Layout.{Layout, layoutOf, layoutIn}
+use Rattle.sheet_record.specs.Layout.{Layout, layoutIn}
 use Rattle.sheet_record.specs.Front.{bad, front, frontOf, past, endAt}
-use Rattle.sheet.specs.Sheet.{isMarked}
-
--- 3 for a version without a layout, or 0
-abbrev pub versionFault : Option Layout → ℕ
-versionFault none = 3
-versionFault (some y) = 0
-
--- the refusal of the sheet as a whole, or 0
-unfoldable pub headFault : List ℕ → ℕ
-headFault s =
-    cond (ltb 65536 (length s)) 1
-    (cond (ltb (length s) 7 || not (isMarked s)) 2
-    (versionFault (layoutOf (numberAt 2 s 3))))
 
 -- the places of the length bytes of n records from a place on, up to the first that is refused
 unfoldable pub placesFrom : Layout → List ℕ → ℕ → ℕ → List ℕ

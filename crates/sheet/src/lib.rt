@@ -1,36 +1,10 @@
-// The state sheet: its header, a walk over its records, and an index of their names.
+// The state sheet: a walk over its records, and an index of their names.
 ghost use mathlib.Core.Path.{_≡_};
 ghost use Prim.Native.Nat.{_<_, _≤_};
 ghost use lib.ListN.{length, set};
 ghost use Rattle.sheet.specs.Index.{Blank, Indexed};
 ghost use Rattle.sheet.specs.Sheet.{numberOf, sheetOf};
-ghost use Rattle.sheet.specs.Structure.{Walked, headFault};
-
-// The refusal of the sheet as a whole, or 0.
-fn head_fault(s: &[u8]) -> u32
-    ensures { λ r. ⌜ r ≡ headFault (now (s .entry)) ⌝ }
-{
-    if 65536 < s.len() {
-        return 1;
-    }
-    if s.len() < 7 {
-        return 2;
-    }
-    if s[0] != b'E' {
-        return 2;
-    }
-    if s[1] != b'A' {
-        return 2;
-    }
-    if s[2] != b'S' {
-        return 2;
-    }
-    if sheet_record::number(s, 3, 2) == 1 {
-        0
-    } else {
-        3
-    }
-}
+ghost use Rattle.sheet.specs.Structure.{Walked};
 
 // Where a walk over the records ends: the reader's place, how many records are left, and how many come before.
 struct Tally {
@@ -78,7 +52,7 @@ pub fn index(
     ensures { λ r. ⌜ r ≡ numberOf (sheetOf (now (s .entry))) ⌝ }
     ensures { λ r. ⌜ (r ≡ 0 → Indexed (now (s .entry)) (now (starts .exit)) (now (heads .exit)) (now (next .exit))) ⌝ }
 {
-    let head = head_fault(s);
+    let head = sheet_head::head_fault(s);
     if head != 0 {
         return head;
     }

@@ -13,7 +13,8 @@ use Rattle.octets.specs.Bytes.{same, numberAt}
 use Rattle.sheet_search.specs.Find.{findIn}
 use Rattle.sheet_record.specs.Layout.{Layout}
 use Rattle.sheet_record.specs.Front.{Fields, Front, bad, front, frontOf, recordAt, past, nameIn}
-use Rattle.sheet.specs.Sheet.{Sheet, refused, records, seen, walk, withLayout, isMarked, sheetBy}
+use Rattle.sheet_head.specs.Head.{isMarked}
+use Rattle.sheet.specs.Sheet.{Sheet, refused, records, seen, walk, withLayout, sheetBy}
 use Rattle.sheet_search.specs.declared.Lookup.the-variants.{Hit, Miss}
 use Rattle.sheet_record.specs.declared.Record.{Record}
 use Rattle.sheet_record.proofs.Places.{Sound, View, reads, view, or-false}

@@ -13,7 +13,7 @@ use Rattle.sheet_search.specs.Find.{findIn, findBy, handedBack}
 use Rattle.sheet_record.specs.Layout.{layoutIn, layoutOf, orPlain}
 use Rattle.sheet_record.specs.Front.{nameIn}
 use Rattle.sheet.specs.Sheet.{Sheet, refused, records, sheetOf, numberOf}
-use Rattle.sheet.specs.Structure.{headFault}
+use Rattle.sheet_head.specs.Head.{headFault}
 use Rattle.sheet_search.specs.declared.Lookup.{Lookup}
 use Rattle.sheet_search.specs.declared.Lookup.the-variants.{Hit, Miss}
 use Rattle.sheet_record.specs.declared.Record.{Record}

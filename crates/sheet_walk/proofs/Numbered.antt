@@ -12,7 +12,8 @@ use Rattle.sheet_record.specs.declared.Record.{Record}
 use Rattle.sheet_record.proofs.Places.{View, refuses, reads, view}
 use Rattle.sheet.specs.Index.{Indexed}
 use Rattle.sheet.specs.Sheet.{Sheet, refused, records, sheetOf, numberOf, Accepted}
-use Rattle.sheet.specs.Structure.{headFault, placesFrom, faultFrom}
+use Rattle.sheet_head.specs.Head.{headFault}
+use Rattle.sheet.specs.Structure.{placesFrom, faultFrom}
 use Rattle.sheet.proofs.Accept.{read, fault, accepted-is, number-head, number-records, headed}
 use Rattle.sheet.proofs.Kept.{counted, place-at, kept-at}
 use Rattle.sheet.proofs.Walk.{recordsFrom, twice, names}

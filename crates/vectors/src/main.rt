@@ -10,14 +10,12 @@
 // In a word \x and two hexadecimal digits stand for a byte. A sheet is its bytes, or @ and the name of a file that has them.
 use libc::STDIN_FILENO;
 use libc::STDOUT_FILENO;
-use octets::Outcome;
 use sheet_search::Lookup;
 use vector_answers::answer;
 use vector_answers::between;
 use vector_answers::field;
 use vector_answers::say;
-use vector_answers::start;
-use vector_answers::values;
+use vector_names::label;
 use vector_words::Word;
 use vector_words::next_word;
 use vector_words::room;
@@ -25,18 +23,6 @@ ghost use Prim.Native.Nat.{_<_, _≤_};
 ghost use lib.ListN.{length};
 
 // ---- cases: each takes its words from a place on and gives the place behind its line
-
-// Writes the label.
-fn label(text: &[u8], from: usize) -> usize
-    ensures { λ r. ⌜ from ≤ r ⌝ }
-{
-    let mut room = room();
-    let label = next_word(text, from, b'\n', &mut room);
-    let len = label.len;
-    say(&room[0..len]);
-    say(b":");
-    label.end
-}
 
 fn state(text: &[u8], from: usize) -> usize
     ensures { λ r. ⌜ from ≤ r ⌝ }
@@ -50,62 +36,6 @@ fn state(text: &[u8], from: usize) -> usize
     field(b"", second.number);
     answer(evaluate::evaluate((kind.number % 256) as u8, first.number, second.number));
     second.end
-}
-
-// The name in an array, and its spelling.
-fn shows(bytes: [u8; 40], n: usize) {
-    if n <= 40 {
-        let name = &bytes[0..n];
-        values(name);
-        let mut line = [0u8; 192];
-        match name_writer::spell(name, &mut line) {
-            Outcome::Refused(k) => field(b" refused", k as u64),
-            Outcome::Done(k) => {
-                say(b", written ");
-                start(line, k);
-            }
-        }
-    }
-}
-
-fn read(text: &[u8], from: usize) -> usize
-    ensures { λ r. ⌜ from ≤ r ⌝ }
-{
-    let mut room = room();
-    let spelling = next_word(text, from, b' ', &mut room);
-    let end = label(text, spelling.end);
-    let len = spelling.len;
-    let name = name_reader::read(&room[0..len]);
-    let bytes = name.bytes;
-    let outcome = name.outcome;
-    match outcome {
-        Outcome::Refused(k) => field(b" refused", k as u64),
-        Outcome::Done(n) => shows(bytes, n),
-    }
-    end
-}
-
-// A name written into lent room.
-fn writes(name: &[u8], room: &mut [u8]) {
-    match name_writer::spell(name, room) {
-        Outcome::Refused(k) => field(b" refused", k as u64),
-        Outcome::Done(n) => field(b"", n as u64),
-    }
-    between(room);
-}
-
-fn write(text: &[u8], from: usize) -> usize
-    ensures { λ r. ⌜ from ≤ r ⌝ }
-{
-    let mut out = room();
-    let mut room = room();
-    let lent = next_word(text, from, b' ', &mut out);
-    let name = next_word(text, lent.end, b' ', &mut room);
-    let end = label(text, name.end);
-    let n = lent.len;
-    let len = name.len;
-    writes(&room[0..len], &mut out[0..n]);
-    end
 }
 
 // A sheet from a place on: its bytes go to the start of a room.
@@ -183,8 +113,8 @@ fn case(text: &[u8], at: usize) -> usize
     let what = next_word(text, at + 1, b' ', &mut room);
     match text[at] {
         b's' => state(text, what.end),
-        b'r' => read(text, what.end),
-        b'w' => write(text, what.end),
+        b'r' => vector_names::read(text, what.end),
+        b'w' => vector_names::write(text, what.end),
         b'c' => check(text, what.end),
         b'f' => find(text, what.end),
         _ => label(text, what.end),

@@ -1,13 +1,13 @@
--- `sheet::head_fault` tests the header: each answer is a case of the definition.
+-- `sheet_head::head_fault` tests the header: each answer is a case of the definition.
 use native.Mathlib.Omega.{arith}
 use borrow.Author.Tests.{le-ltb, lt-ltb, eq-eqb, ne-eqb}
 use denote.Ref.{now}
 use Rattle.octets.specs.Bytes.{numberAt}
-use Rattle.sheet.specs.Structure.{headFault}
-use Rattle.sheet.proofs.Head.{mark-bytes}
+use Rattle.sheet_head.specs.Head.{headFault}
+use Rattle.sheet_head.proofs.Head.{mark-bytes}
 use borrow.Author.Needs.{needs}
-use Rattle.sheet.proofs.head_fault.Statement.{statement}
-use Rattle.sheet.proofs.head_fault.Tie as tie
+use Rattle.sheet_head.proofs.head_fault.Statement.{statement}
+use Rattle.sheet_head.proofs.head_fault.Tie as tie
 
 returns : tie.Need-returns
 unfolding headFault

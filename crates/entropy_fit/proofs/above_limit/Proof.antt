@@ -1,10 +1,10 @@
--- `entropy::above_limit` compares Z with the limit of its band.
+-- `entropy_fit::above_limit` compares Z with the limit of its band.
 use mathlib.Core.Path.{_≡_, ap, _∙_}
 use borrow.Author.Needs.{needs}
 use Rattle.integer.proofs.Machine.{back, back-ok}
 use Rattle.tgas2_entropy.specs.Entropy.{entropyLimit}
-use Rattle.entropy.proofs.above_limit.Statement.{statement}
-use Rattle.entropy.proofs.above_limit.Tie as tie
+use Rattle.entropy_fit.proofs.above_limit.Statement.{statement}
+use Rattle.entropy_fit.proofs.above_limit.Tie as tie
 
 band-of-requires : tie.Need-band-of-requires
 band-of-requires c κs = search needs

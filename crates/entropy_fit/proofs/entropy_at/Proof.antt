@@ -1,4 +1,4 @@
--- `entropy::entropy_at` is the entropy at a place: perfect up to 650,000, else the band's fit.
+-- `entropy_fit::entropy_at` is the entropy at a place: perfect up to 650,000, else the band's fit.
 use mathlib.Core.Path.{_≡_, sym, ap, _∙_}
 use mathlib.Core.Bool.{Bool, true, false, cond}
 use Prim.Native.Nat.{ℕ, _+_, _*_, _^_, _<_}
@@ -21,10 +21,10 @@ use Rattle.tgas2_entropy.proofs.Sizes.{entropy-small}
 use Rattle.perfect.specs.Perfect.{R}
 use Rattle.air.specs.Entropy.{rise, perfectEntropy, fittedEntropy, entropyAt}
 use Rattle.air.proofs.Sizes.{in-25, bicubic-in, rise-in}
-use Rattle.entropy.proofs.entropy_at.Statement.{statement}
-use Rattle.entropy.proofs.entropy_at.Tie as tie
-use Rattle.entropy.proofs.entropy_at.Reads as reads
-use Rattle.entropy.proofs.entropy_at.Lts as lts
+use Rattle.entropy_fit.proofs.entropy_at.Statement.{statement}
+use Rattle.entropy_fit.proofs.entropy_at.Tie as tie
+use Rattle.entropy_fit.proofs.entropy_at.Reads as reads
+use Rattle.entropy_fit.proofs.entropy_at.Lts as lts
 
 -- ---- up to 650,000
 rise-requires : tie.Need-rise-requires

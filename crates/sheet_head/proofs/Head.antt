@@ -6,7 +6,7 @@ use Prim.Native.Nat.{ℕ, _≤_}
 use native.Mathlib.Omega.{arith}
 use lib.Dec.{eqb}
 use lib.ListN.{length, getD}
-use Rattle.sheet.specs.Sheet.{isMarked}
+use Rattle.sheet_head.specs.Head.{isMarked}
 
 pub mark-bytes : (s : List ℕ) → 7 ≤ length s → isMarked s ≡ eqb (getD s 0 0) 69 && (eqb (getD s 1 0) 65 && (eqb (getD s 2 0) 83 && true))
 mark-bytes [] h = absurd (omega arith)

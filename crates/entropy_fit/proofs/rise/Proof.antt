@@ -1,4 +1,4 @@
--- `entropy::rise` is m.
+-- `entropy_fit::rise` is m.
 use mathlib.Core.Path.{_≡_}
 use Prim.Native.Nat.{_^_, _<_}
 use native.Mathlib.Nat.{lt-of-le-of-lt}
@@ -12,9 +12,9 @@ use Rattle.integer.specs.Laws.{abs-is, abs-by}
 use Rattle.integer.proofs.Machine.{back, fits64}
 use Rattle.air.specs.Entropy.{rise}
 use Rattle.air.proofs.Sizes.{rise-in}
-use Rattle.entropy.specs.Ready.{PlaceReady}
-use Rattle.entropy.proofs.rise.Statement.{statement}
-use Rattle.entropy.proofs.rise.Tie as tie
+use Rattle.entropy_fit.specs.Ready.{PlaceReady}
+use Rattle.entropy_fit.proofs.rise.Statement.{statement}
+use Rattle.entropy_fit.proofs.rise.Tie as tie
 
 module _ (y z : ℤ) (h : PlaceReady y z) where
   z-fits : SFits w64 (z -ℤ pos 400000)
