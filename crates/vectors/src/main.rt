@@ -1,7 +1,7 @@
 // Runs vectors and writes a line for each.
 // Standard input has a case a line: what is done, its words with one space between, and a label that the answer repeats.
 //
-//   state KIND FIRST SECOND   a state's answer, in columns: see `columns`
+//   state KIND FIRST SECOND   a state's answer, in columns: see `columns` of vector_answers
 //   read SPELLING LABEL       the name's bytes in decimal, and the name as written
 //   write ROOM NAME LABEL     how many bytes were written, and between < and > the whole room
 //   check SHEET LABEL         the refusal's number or 0
