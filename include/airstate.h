@@ -13,6 +13,11 @@
  * An answer's logarithms are decimal ones in millionths: y of the density over 1.292 kg/m3, x of the pressure over
  * 101,330 Pa, z = x - y for a temperature, z of the energy over 78,408.4 J/kg for an entropy.
  *
+ * The fits have three density bands, which meet at y = -4,500,000 and y = -500,000. Strictly within 25,000 of the first
+ * edge and 5,000 of the second a value is joined: it lies on the straight line, rounded down, between the values at both
+ * ends of that strip, each worked out with the state's own z in the band of its own y. So a plot has no step there. An
+ * entropy is joined at every z, a temperature where its z is above 250,000; below, the gas is perfect.
+ *
  * A byte sequence is a pointer and a length; a null pointer is allowed where the length is 0. A buffer that is lent for
  * writing overlaps no other argument. A refusal changes no byte of it; a success writes a prefix.
  *
@@ -30,9 +35,9 @@ extern "C" {
 
 /* The version of this header. The library has the same soname as long as the first number stays. */
 #define EAS_VERSION_MAJOR 2
-#define EAS_VERSION_MINOR 0
+#define EAS_VERSION_MINOR 1
 #define EAS_VERSION_PATCH 0
-#define EAS_VERSION "2.0.0"
+#define EAS_VERSION "2.1.0"
 
 /* Whether this header is of a version or a later one: #if !EAS_VERSION_AT_LEAST(2, 0, 0) ... #error */
 #define EAS_VERSION_AT_LEAST(major, minor, patch)                                                                      \
@@ -67,7 +72,7 @@ enum {
     EAS_DENSITY_OUT_OF_RANGE = 11, /* the density is out of its range */
     EAS_Z_OUT_OF_RANGE = 12,   /* a temperature's z is below -1,000,000 or above 3,000,000; an entropy's is above its
                                   band's limit, in a join above that of either edge */
-    EAS_FIT_OUT_OF_RANGE = 13, /* a temperature's G is below 0 or above 19,600,000,000 */
+    EAS_FIT_OUT_OF_RANGE = 13, /* a temperature's G is below 0 or above 19,600,000,000, in a join at either edge */
     /* a text */
     EAS_ROOM_TOO_SHORT = 14, /* the room is shorter than the text */
     EAS_LIST_TOO_LONG = 15   /* the name list is over 65,536 bytes */
@@ -116,7 +121,7 @@ static inline const char *eas_reason(uint32_t number) {
 }
 
 /* One fit: the exponent G of the temperature over 273.15 K, and the weight W of the fit's second part, both in units of
- * 10^-10. value is 0 but in a join that shows a value: then it is that edge's own. */
+ * 10^-10. value is 0 but in a joined temperature that is not refused: then it is that edge's own, in 10^-6 K. */
 typedef struct {
     int64_t fit, weight, value;
 } eas_edge;
@@ -124,14 +129,15 @@ typedef struct {
 enum { EAS_CARRIES_LOGS = 1, EAS_CARRIES_X = 2, EAS_CARRIES_LOW = 4, EAS_CARRIES_HIGH = 8, EAS_CARRIES_VALUE = 16 };
 
 /* Every field that is not carried is 0, so that two answers compare field by field. A refusal 12 carries the
- * logarithms, a refusal 13 the fit too; the others carry nothing. */
+ * logarithms, a refusal 13 the fit too, in a join both edges' fits and no value of either; the others carry nothing. */
 typedef struct {
     uint32_t number;    /* 0, or the refusal's number */
     uint32_t letter;    /* 'T' temperature, 'S' entropy; 0 where nothing was worked out */
     uint32_t carries;   /* which of the fields below hold something: the sum of EAS_CARRIES_ values */
     int64_t x, y, z;    /* logarithms in whole millionths */
     int64_t value;      /* temperature in 10^-6 K, or entropy in 10^-4 J/(kg K) */
-    eas_edge low, high; /* a single fit stands in low; a perfect gas and an entropy have none */
+    eas_edge low, high; /* a single fit stands in low, a joined temperature's in both: low is at the smaller density; a
+                           perfect gas and an entropy have none */
 } eas_answer;
 
 /* A record of a sheet. Its name is the `length` bytes of the sheet from `start` on, not spelled. Refused: all 0 but the

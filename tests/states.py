@@ -1,10 +1,12 @@
 """Judges every line of crates/vectors/stdout that answers a state of crates/vectors/stdin.
 
-Written from document 01 and tests/listing/*.txt alone. Regions, fits, entropies and refusals are worked out again in whole
+Written from document 01, request 1 and tests/listing/*.txt alone. Regions, fits, entropies and refusals are worked out again in whole
 numbers. The three free answers are taken from the line and held to their definitions: a logarithm by decimals of 60 digits,
 each of which the standard library rounds correctly, and as an exact power of ten where these leave a doubt.
-A line that is wrong fails, and so does an edge, a piece or a refusal that no line visits. Both sides of refusal 13's upper edge
-are visited exactly: G of 19,600,000,000 and of one unit more. No state comes near its lower edge, a G of 0."""
+A line that is wrong fails, and so does an edge, a piece, a pair of pieces in a join or a refusal that no line visits. Both sides
+of refusal 13's upper edge are visited exactly: G of 19,600,000,000 and of one unit more. No state comes near its lower edge, a G
+of 0. Joins are visited where a mistaken one would show: far from the line between the exponents, and at a Y that is inside a strip
+of one width and outside of the other."""
 
 import sys
 from decimal import Decimal, getcontext
@@ -138,13 +140,25 @@ def carries(a, number=0, value=0, low=Edge(), high=Edge()):
     return (a.number, a.value, a.low, a.high) == (number, value, low, high)
 
 
-# ---- whether an answer is right, and the place that it visits
+# ---- whether an answer is right, and the places that it visits
+
+
+def strip_of(y):
+    return next(((a, b) for a, b in STRIPS if a < y < b), None)
+
+
+def straight(strip, low, high, y):
+    a, b = strip
+    return low + (high - low) * (y - a) // (b - a)
+
+
+def piece_of(y, z):
+    return sum(z > end for end in ends(band(y)))
 
 
 def fit_at(y, z, weight):
     """the place of a fit, its G with a weight, and whether that weight is right"""
-    name = band(y)
-    piece = sum(z > end for end in ends(name))
+    name, piece = band(y), piece_of(y, z)
     label, place = LABELS[name][piece], f"T {name} piece {piece + 1}"
     g = bicubic(TEMPERATURE, label, 1, y, z)
     if piece == 0:
@@ -156,17 +170,55 @@ def fit_at(y, z, weight):
     return place, g + weight * bicubic(TEMPERATURE, label, 5, y, z) // UNITS, is_weight(q, weight)
 
 
-def temperature(a):
-    logs = a.letter == "T" and is_log(a.first, P0, a.x) and is_log(a.second, D0, a.y) and a.z == a.x - a.y
-    if not WINDOW[0] <= a.z <= WINDOW[1]:
-        return logs and carries(a, 12), "T beyond"
-    if a.z <= 250_000:
-        return logs and carries(a, value=a.first * 10**13 // (R * a.second)), f"T {band(a.y)} perfect"
+def is_beyond(g):
+    return not 0 <= g <= HIGHEST_FIT
+
+
+def is_raised(g, t):
+    return is_power(g // 10**4, t)
+
+
+def unjoined(a):
     place, g, weighed = fit_at(a.y, a.z, a.low.weight)
     low = Edge(g, a.low.weight)
-    if not 0 <= g <= HIGHEST_FIT:
-        return logs and weighed and carries(a, 13, low=low), "T fit " + ("below" if g < 0 else "above")
-    return logs and weighed and is_power(g // 10**4, a.value) and carries(a, value=a.value, low=low), place
+    if is_beyond(g):
+        return weighed and carries(a, 13, low=low), ["T fit " + ("below" if g < 0 else "above")]
+    return weighed and is_raised(g, a.value) and carries(a, value=a.value, low=low), [place]
+
+
+def by_exponents(strip, fits, y):
+    """the temperature on the line between two exponents, which a join is not"""
+    return int(T0 * Decimal(10) ** (Decimal(straight(strip, *fits, y)) / UNITS))
+
+
+def joined(a, strip):
+    judged = [fit_at(y, a.z, edge.weight) for y, edge in zip(strip, (a.low, a.high))]
+    fits = [g for _, g, _ in judged]
+    weighed = all(right for _, _, right in judged)
+    low, high = (Edge(g, edge.weight, edge.value) for g, edge in zip(fits, (a.low, a.high)))
+    pieces = " ".join(str(piece_of(y, a.z) + 1) for y in strip)
+    inside = [f"T join at {strip[0]}: pieces {pieces}"]
+    beyond = [which for which, g in zip(("low", "high"), fits) if is_beyond(g)]
+    if beyond:
+        unvalued = low.value == high.value == 0
+        return weighed and unvalued and carries(a, 13, low=low, high=high), [f"T join beyond: {' '.join(beyond)}"]
+    raised = is_raised(low.fit, low.value) and is_raised(high.fit, high.value)
+    value = straight(strip, low.value, high.value, a.y)
+    if abs(by_exponents(strip, fits, a.y) - value) > 10**6:
+        inside.append(f"T join at {strip[0]}: far from the line between exponents")
+    return weighed and raised and carries(a, value=value, low=low, high=high), inside
+
+
+def temperature(a):
+    logs = a.letter == "T" and is_log(a.first, P0, a.x) and is_log(a.second, D0, a.y) and a.z == a.x - a.y
+    strip = strip_of(a.y)
+    place = f"T {band(a.y)}" + " strip" * bool(strip)
+    if not WINDOW[0] <= a.z <= WINDOW[1]:
+        return logs and carries(a, 12), [place + " beyond"]
+    if a.z <= 250_000:
+        return logs and carries(a, value=a.first * 10**13 // (R * a.second)), [place + " perfect"]
+    right, inside = joined(a, strip) if strip else unjoined(a)
+    return logs and right, inside
 
 
 def entropy_at(y, z):
@@ -177,25 +229,22 @@ def entropy_at(y, z):
 
 def entropy(a):
     logs = a.letter == "S" and a.x == 0 and is_log(a.second, D0, a.y) and is_log(a.first, E0, a.z)
-    strip = [(low, high) for low, high in STRIPS if low < a.y < high]
-    place = f"S {band(a.y)}" + " strip" * len(strip)
-    if any(a.z > limit(band(y)) for y in (strip[0] if strip else (a.y,))):
-        return logs and carries(a, 12), place + " beyond"
-    want = entropy_at(a.y, a.z)
-    for low, high in strip:
-        lower, upper = entropy_at(low, a.z), entropy_at(high, a.z)
-        want = lower + (upper - lower) * (a.y - low) // (high - low)
-    return logs and carries(a, value=want), place + (" perfect" if a.z <= 650_000 else " fitted")
+    strip = strip_of(a.y)
+    place = f"S {band(a.y)}" + " strip" * bool(strip)
+    if any(a.z > limit(band(y)) for y in strip or (a.y,)):
+        return logs and carries(a, 12), [place + " beyond"]
+    want = straight(strip, *(entropy_at(y, a.z) for y in strip), a.y) if strip else entropy_at(a.y, a.z)
+    return logs and carries(a, value=want), [place + (" perfect" if a.z <= 650_000 else " fitted")]
 
 
 def judge(a):
     alone = (a.letter, a.x, a.y, a.z) == ("0", 0, 0, 0)
     if a.kind not in FIRST:
-        return alone and carries(a, 6), "6"
+        return alone and carries(a, 6), ["6"]
     if not FIRST[a.kind][0] <= a.first <= FIRST[a.kind][1]:
-        return alone and carries(a, 10), f"{a.kind} first {a.first}"
+        return alone and carries(a, 10), [f"{a.kind} first {a.first}"]
     if not DENSITY[0] <= a.second <= DENSITY[1]:
-        return alone and carries(a, 11), f"{a.kind} second {a.second}"
+        return alone and carries(a, 11), [f"{a.kind} second {a.second}"]
     return (temperature if a.kind == 1 else entropy)(a)
 
 
@@ -206,18 +255,35 @@ def both_sides(*lasts):
     return [n for last in lasts for n in (last, last + 1)]
 
 
+def pairs(strip):
+    """the pieces at both edges, for each Z that tells them apart"""
+    zs = [WINDOW[1], *(end for y in strip for end in ends(band(y)))]
+    return sorted({tuple(piece_of(y, z) + 1 for y in strip) for z in zs})
+
+
+def join_places():
+    yield from (f"T join beyond: {which}" for which in ("low", "high", "low high"))
+    for strip in STRIPS:
+        yield from (f"T join at {strip[0]}: pieces {low} {high}" for low, high in pairs(strip))
+        yield f"T join at {strip[0]}: far from the line between exponents"
+    for letter in "TS":
+        yield from (f"{letter} y {y}" for strip in STRIPS for edge in strip for y in (edge - 1, edge, edge + 1))
+    yield from (f"T y {y}" for y in (-4_490_000, -510_000))
+
+
 def places():
-    yield from ("6", "T beyond", "T fit above")
+    yield from ("6", "T fit above")
     for kind, (least, most) in FIRST.items():
         yield from (f"{kind} first {least - 1}", f"{kind} first {most + 1}")
         yield from (f"{kind} second {DENSITY[0] - 1}", f"{kind} second {DENSITY[1] + 1}")
     yield from (f"T y {y}" for y in both_sides(*EDGES))
     yield from (f"T fit {g}" for g in both_sides(HIGHEST_FIT))
-    yield from (f"S y {y}" for a, b in STRIPS for y in both_sides(a, b - 1))
+    yield from join_places()
     for name in BANDS:
-        yield from (f"T {name} perfect", f"T {name} piece 1")
+        yield f"T {name} piece 1"
         yield from (f"T {name} piece {k}{q}" for k in range(2, len(LABELS[name]) + 1) for q in ("", " q below 0", " q above 0"))
         yield from (f"T {name} z {z}" for z in both_sides(WINDOW[0] - 1, 250_000, *ends(name), WINDOW[1]))
+        yield from (f"T {name}{strip} {part}" for strip in ("", " strip") for part in ("perfect", "beyond"))
         yield from (f"S {name}{strip} {part}" for strip in ("", " strip") for part in ("perfect", "fitted", "beyond"))
         yield from (f"S {name} z {z}" for z in both_sides(650_000, limit(name)))
 
@@ -232,10 +298,10 @@ def main():
         if not case.startswith("state "):
             continue
         a = answer(line)
-        right, place = judge(a)
+        right, here = judge(a)
         if case != f"state {a.kind} {a.first} {a.second}" or not right:
-            sys.exit(f"{place}: {case}: {line}")
-        visited |= {place, f"{a.letter} y {a.y}", f"{a.letter} {band(a.y)} z {a.z}", f"{a.letter} fit {a.low.fit}"}
+            sys.exit(f"{here}: {case}: {line}")
+        visited |= {*here, f"{a.letter} y {a.y}", f"{a.letter} {band(a.y)} z {a.z}", f"{a.letter} fit {a.low.fit}"}
         count += 1
     missing = [place for place in places() if place not in visited]
     if missing:

@@ -184,29 +184,36 @@ eas_text baseline_spell(const uint8_t *name, size_t n, uint8_t *out, size_t room
     return (eas_text){0, length};
 }
 
+/* The temperature of a band's fit in microkelvin; sets the refusal where the fit is beyond its limits. */
+static double fitted(int band, double y, double z, uint32_t *number) {
+    double fit = tgas1_fit(tgas1_parts(band, y, z));
+    if (fit < 0 || fit > (double)MOST_FIT / 1e10)
+        *number = 13;
+    return (double)STANDARD_TEMPERATURE * pow(10, fit);
+}
+
 static baseline_answer temperature(uint64_t pressure, uint64_t density) {
     double x = log10((double)pressure / (double)STANDARD_PRESSURE),
            y = log10((double)density / (double)STANDARD_DENSITY);
     baseline_answer a = {0, 'T', y, x - y, 0};
+    tgas_strip s;
     if (a.z < MILLIONTHS(LEAST_Z) || a.z > MILLIONTHS(MOST_Z)) {
         a.number = 12;
     } else if (a.z <= MILLIONTHS(PERFECT_Z)) {
         a.value = (double)pressure * 1e13 / (28706.0 * (double)density);
+    } else if (!tgas_strip_at(y, &s)) {
+        a.value = fitted(tgas_band(y), y, a.z, &a.number);
     } else {
-        double fit = tgas1_fit(tgas1_parts(tgas_band(a.y), a.y, a.z));
-        a.number = fit < 0 || fit > (double)MOST_FIT / 1e10 ? 13 : 0;
-        a.value = (double)STANDARD_TEMPERATURE * pow(10, fit);
+        double low = fitted(s.below, s.low, a.z, &a.number), high = fitted(s.below + 1, s.high, a.z, &a.number);
+        a.value = tgas_line(&s, y, low, high);
     }
     return a;
 }
 
 /* Inside a strip the band above it has the smaller limit. */
 static int judging_band(double y) {
-    if (fabs(y - MILLIONTHS(LOWER_EDGE)) < MILLIONTHS(LOWER_HALF))
-        return MIDDLE;
-    if (fabs(y - MILLIONTHS(UPPER_EDGE)) < MILLIONTHS(UPPER_HALF))
-        return HIGH;
-    return tgas_band(y);
+    tgas_strip s;
+    return tgas_strip_at(y, &s) ? s.below + 1 : tgas_band(y);
 }
 
 static baseline_answer entropy(uint64_t energy, uint64_t density) {

@@ -32,7 +32,7 @@ typedef struct {
 } text;
 
 static size_t states;
-static pair *temperatures, *entropies;
+static pair *temperatures, *entropies, *singles, *joins;
 static uint8_t small_sheet[SHEET_MOST + 1], full_sheet[SHEET_MOST];
 static size_t small_size, full_size;
 static text small_names[3], full_names[NAMES];
@@ -45,26 +45,62 @@ static uint64_t scaled(uint64_t standard, double logarithm) {
     return (uint64_t)llround((double)standard * pow(10, logarithm));
 }
 
-/* Two thirds of the temperatures are fitted; every state is accepted. */
+static pair *room_for_states(void) {
+    pair *room = malloc(states * sizeof *room);
+    if (!room)
+        exit(1);
+    return room;
+}
+
+/* Where temperatures lie: two thirds of any are fitted, all of those outside the strips or inside them. */
+typedef enum { ANY, OUTSIDE, INSIDE } where;
+
+static int is_there(const eas_answer *a, where w) {
+    int64_t middle, half;
+    return w == ANY || inside_strip(a->y, &middle, &half) == (w == INSIDE);
+}
+
+/* y over the plane, or over one strip or the other. */
+static double random_y(random_source *r, where w) {
+    double middle = MILLIONTHS(LOWER_EDGE), half = MILLIONTHS(LOWER_HALF);
+    if (w != INSIDE)
+        return -7 + 10 * random_unit(r);
+    if (random_below(r, 2)) {
+        middle = MILLIONTHS(UPPER_EDGE);
+        half = MILLIONTHS(UPPER_HALF);
+    }
+    return middle + half * (2 * random_unit(r) - 1);
+}
+
+/* Every state is accepted. */
+static pair *make_temperatures(random_source *r, where w) {
+    pair *made = room_for_states();
+    for (size_t i = 0; i < states;) {
+        double y = random_y(r, w);
+        double z = w != ANY || i % 3 ? 0.2500015 + 2.3 * random_unit(r) : -0.99 + 1.23 * random_unit(r);
+        made[i] = (pair){scaled(STANDARD_PRESSURE, y + z), scaled(STANDARD_DENSITY, y)};
+        eas_answer a = eas_evaluate(1, made[i].first, made[i].second);
+        i += a.number == 0 && is_there(&a, w);
+    }
+    return made;
+}
+
+static pair *make_entropies(random_source *r) {
+    pair *made = room_for_states();
+    for (size_t i = 0; i < states;) {
+        double y = random_y(r, ANY), z = -0.99 + 4.6 * random_unit(r);
+        made[i] = (pair){scaled(STANDARD_ENERGY, z), scaled(STANDARD_DENSITY, y)};
+        i += eas_evaluate(2, made[i].first, made[i].second).number == 0;
+    }
+    return made;
+}
+
 static void make_states(void) {
     random_source r = random_case(SEED, 0, 0);
-    temperatures = malloc(states * sizeof *temperatures);
-    entropies = malloc(states * sizeof *entropies);
-    if (!temperatures || !entropies)
-        exit(1);
-    for (size_t i = 0; i < states;) {
-        double y = -7 + 10 * random_unit(&r);
-        double z = i % 3 ? 0.2500015 + 2.3 * random_unit(&r) : -0.99 + 1.23 * random_unit(&r);
-        pair p = {scaled(STANDARD_PRESSURE, y + z), scaled(STANDARD_DENSITY, y)};
-        temperatures[i] = p;
-        i += eas_evaluate(1, p.first, p.second).number == 0;
-    }
-    for (size_t i = 0; i < states;) {
-        double y = -7 + 10 * random_unit(&r), z = -0.99 + 4.6 * random_unit(&r);
-        pair p = {scaled(STANDARD_ENERGY, z), scaled(STANDARD_DENSITY, y)};
-        entropies[i] = p;
-        i += eas_evaluate(2, p.first, p.second).number == 0;
-    }
+    temperatures = make_temperatures(&r, ANY);
+    entropies = make_entropies(&r);
+    singles = make_temperatures(&r, OUTSIDE);
+    joins = make_temperatures(&r, INSIDE);
 }
 
 static void make_small_sheet(void) {
@@ -126,6 +162,10 @@ static uint8_t line[LINE_MOST];
 
 JOB(library_temperature, states, eas_evaluate(1, temperatures[i].first, temperatures[i].second).value)
 JOB(listing_temperature, states, tgas1_temperature(temperatures[i].first, temperatures[i].second))
+JOB(library_single, states, eas_evaluate(1, singles[i].first, singles[i].second).value)
+JOB(listing_single, states, tgas1_temperature(singles[i].first, singles[i].second))
+JOB(library_join, states, eas_evaluate(1, joins[i].first, joins[i].second).value)
+JOB(listing_join, states, tgas1_temperature(joins[i].first, joins[i].second))
 JOB(library_entropy, states, eas_evaluate(2, entropies[i].first, entropies[i].second).value)
 JOB(listing_entropy, states, tgas2_entropy(entropies[i].first, entropies[i].second))
 JOB(library_search_small, SMALL_CALLS, eas_search(SMALL).value)
@@ -282,6 +322,8 @@ int main(int argc, char **argv) {
     make_titles();
     const row rows[] = {
         {"temperature", "ns", library_temperature, listing_temperature, (double)states, 1e9},
+        {"temperature, fitted outside the strips", "ns", library_single, listing_single, (double)states, 1e9},
+        {"temperature, joined in a strip", "ns", library_join, listing_join, (double)states, 1e9},
         {"entropy", "ns", library_entropy, listing_entropy, (double)states, 1e9},
         {"search, sheet of 3 states", "ns", library_search_small, baseline_search_small, SMALL_CALLS, 1e9},
         {"search, fullest sheet", "µs", library_search_full, baseline_search_full, FULL_CALLS, 1e6},
@@ -289,9 +331,9 @@ int main(int argc, char **argv) {
         {lines_title, "ms", library_lines, plain_lines, 1, 1e3},
         {list_title, "ms", library_list, plain_list, 1, 1e3},
     };
-    printf(
-        "%zu temperatures, two thirds fitted, and as many entropies; the fullest sheet has %u states in %zu bytes.\n",
-        states, record_count(full_sheet), full_size);
+    printf("%zu temperatures, two thirds fitted, as many fitted outside the strips and joined in them, and entropies; ",
+           states);
+    printf("the fullest sheet has %u states in %zu bytes.\n", record_count(full_sheet), full_size);
     printf("Processor time: median of %d repetitions (least to most).\n\n", REPETITIONS);
     printf("| what | library | plain C | ratio |\n|---|---|---|---|\n");
     for (size_t i = 0; i < sizeof rows / sizeof *rows; i++)

@@ -8,6 +8,22 @@ int tgas_band(double y) {
     return y > MILLIONTHS(UPPER_EDGE) ? HIGH : y > MILLIONTHS(LOWER_EDGE) ? MIDDLE : LOW;
 }
 
+int tgas_strip_at(double y, tgas_strip *strip) {
+    const double lower = MILLIONTHS(LOWER_EDGE), lower_half = MILLIONTHS(LOWER_HALF);
+    const double upper = MILLIONTHS(UPPER_EDGE), upper_half = MILLIONTHS(UPPER_HALF);
+    if (fabs(y - lower) < lower_half)
+        *strip = (tgas_strip){lower - lower_half, lower + lower_half, LOW};
+    else if (fabs(y - upper) < upper_half)
+        *strip = (tgas_strip){upper - upper_half, upper + upper_half, MIDDLE};
+    else
+        return 0;
+    return 1;
+}
+
+double tgas_line(const tgas_strip *strip, double y, double low, double high) {
+    return low + (high - low) / (strip->high - strip->low) * (y - strip->low);
+}
+
 /* The listing's grouping of ten coefficients. */
 #define BICUBIC(a, b, c, d, e, f, g, h, i, j)                                                                          \
     ((a) + (b)*y + ((c) + (d)*y) * z + ((e) + (f)*z + (g)*y) * y * y + ((h) + (i)*y + (j)*z) * z * z)
@@ -109,28 +125,27 @@ double tgas2_plain(int band, double y, double z) {
                             -8.71048e-01, 2.01789);
 }
 
-/* The straight line between the entropies at both edges of a strip. */
-static double join(int band, double y, double z, double edge, double half) {
-    double low = tgas2_plain(band, edge - half, z), high = tgas2_plain(band + 1, edge + half, z);
-    return low + (high - low) / (2 * half) * (y - (edge - half));
+double tgas2_joined(double y, double z) {
+    tgas_strip s;
+    if (!tgas_strip_at(y, &s))
+        return tgas2_plain(tgas_band(y), y, z);
+    return tgas_line(&s, y, tgas2_plain(s.below, s.low, z), tgas2_plain(s.below + 1, s.high, z));
 }
 
-double tgas2_joined(double y, double z) {
-    const double lower = MILLIONTHS(LOWER_EDGE), lower_half = MILLIONTHS(LOWER_HALF);
-    const double upper = MILLIONTHS(UPPER_EDGE), upper_half = MILLIONTHS(UPPER_HALF);
-    if (fabs(y - lower) < lower_half)
-        return join(LOW, y, z, lower, lower_half);
-    if (fabs(y - upper) < upper_half)
-        return join(MIDDLE, y, z, upper, upper_half);
-    return tgas2_plain(tgas_band(y), y, z);
+/* Temperature of a band's fit in kelvin. */
+static double kelvin(int band, double y, double z) {
+    return pow(10, tgas1_fit(tgas1_parts(band, y, z))) * T0;
 }
 
 double tgas1_temperature(uint64_t pressure, uint64_t density) {
     double p = (double)pressure * 1e-6, r = (double)density * 1e-11;
     double x = log10(p / P0), y = log10(r / R0), z = x - y;
+    tgas_strip s;
     if (z <= MILLIONTHS(PERFECT_Z))
         return p / (GASCON * r);
-    return pow(10, tgas1_fit(tgas1_parts(tgas_band(y), y, z))) * T0;
+    if (!tgas_strip_at(y, &s))
+        return kelvin(tgas_band(y), y, z);
+    return tgas_line(&s, y, kelvin(s.below, s.low, z), kelvin(s.below + 1, s.high, z));
 }
 
 double tgas2_entropy(uint64_t energy, uint64_t density) {

@@ -1,5 +1,6 @@
-/* The listing of source document 000 in C doubles with libm: TGAS1's temperature (labels 300 to 450) and TGAS2's
- * entropy. Benchmarks are measured against it; the checklist and the fuzz drivers compare with it. */
+/* The listing of source document 000 in C doubles with libm: TGAS1's temperature (labels 300 to 450), joined at the
+ * band edges as entropy is, and TGAS2's entropy. Benchmarks are measured against it; the fuzz drivers compare with it.
+ */
 #ifndef TGAS_H
 #define TGAS_H
 
@@ -23,10 +24,22 @@ tgas_parts tgas1_parts(int band, double y, double z);
 /* log10 of T/T0. */
 double tgas1_fit(tgas_parts parts);
 
+/* A strip around a band edge: its ends, and the band below; the next one is above. */
+typedef struct {
+    double low, high;
+    int below;
+} tgas_strip;
+
+/* Whether y lies strictly inside a strip. */
+int tgas_strip_at(double y, tgas_strip *strip);
+
+/* The straight line between the values at a strip's ends. */
+double tgas_line(const tgas_strip *strip, double y, double low, double high);
+
 /* Entropy in J/(kg K) of a band, not joined. */
 double tgas2_plain(int band, double y, double z);
 
-/* Entropy joined at the band edges. */
+/* Entropy in J/(kg K) joined at the band edges. */
 double tgas2_joined(double y, double z);
 
 /* Kelvin from micropascal and 10^-11 kg/m3; J/(kg K) from mJ/kg and 10^-11 kg/m3. */

@@ -25,17 +25,48 @@ static int fits_temperature(int64_t fit, int64_t value) {
     return taken > g - 1 - SLACK && taken < g + 2 + SLACK;
 }
 
-static void judge_fitted(const eas_answer *a) {
-    double y = (double)a->y / 1e6, z = (double)a->z / 1e6;
-    tgas_parts parts = tgas1_parts(tgas_band(y), y, z);
+/* A fit at a place, against the doubles there; returns whether it is beyond its limits. */
+static int judge_place(const eas_edge *edge, int64_t at, int64_t z) {
+    double y = (double)at / 1e6;
+    tgas_parts parts = tgas1_parts(tgas_band(y), y, (double)z / 1e6);
     double weight = parts.weighted ? 1e10 / (1 + exp(parts.exponent)) : 0;
-    require(fabs((double)a->low.weight - weight) < 20, "a fit's weight is near its ideal");
-    require(a->low.weight >= 0 && a->low.weight <= 10000000000, "a fit's weight lies between none and all");
-    require(fabs((double)a->low.fit - 1e10 * tgas1_fit(parts)) < 10000,
-            "a fit lies within 10,000 units of the doubles");
-    int refused = a->low.fit < 0 || a->low.fit > MOST_FIT;
+    require(fabs((double)edge->weight - weight) < 20, "a fit's weight is near its ideal");
+    require(edge->weight >= 0 && edge->weight <= 10000000000, "a fit's weight lies between none and all");
+    require(fabs((double)edge->fit - 1e10 * tgas1_fit(parts)) < 10000, "a fit lies within 10,000 units of the doubles");
+    return edge->fit < 0 || edge->fit > MOST_FIT;
+}
+
+static void judge_single(const eas_answer *a) {
+    int refused = judge_place(&a->low, a->y, a->z);
     require(a->number == (refused ? 13u : 0u), "13 exactly where G is outside its limits");
+    require(a->low.value == 0, "a single fit has no edge temperature");
     require(refused ? a->value == 0 : fits_temperature(a->low.fit, a->value), "a fitted temperature");
+}
+
+static void judge_joined(const eas_answer *a, int64_t lower, int64_t upper) {
+    int low = judge_place(&a->low, lower, a->z), high = judge_place(&a->high, upper, a->z);
+    require(a->number == (low || high ? 13u : 0u), "13 exactly where an edge's G is outside its limits");
+    if (a->number) {
+        require(a->value == 0 && a->low.value == 0 && a->high.value == 0, "a refused join has no temperature");
+        return;
+    }
+    require(fits_temperature(a->low.fit, a->low.value) && fits_temperature(a->high.fit, a->high.value),
+            "the temperatures at the edges");
+    __int128 width = upper - lower, rise = (__int128)(a->high.value - a->low.value) * (a->y - lower);
+    __int128 rest = rise - (__int128)(a->value - a->low.value) * width;
+    require(rest >= 0 && rest < width, "a join is the straight line, rounded down");
+}
+
+static void judge_fitted(const eas_answer *a) {
+    int64_t middle, half;
+    int joined = inside_strip(a->y, &middle, &half);
+    uint32_t edges = joined ? EAS_CARRIES_LOW | EAS_CARRIES_HIGH : EAS_CARRIES_LOW;
+    require(a->carries == (EAS_CARRIES_LOGS | EAS_CARRIES_X | edges | (a->number ? 0u : EAS_CARRIES_VALUE)),
+            "what a fitted temperature carries");
+    if (joined)
+        judge_joined(a, middle - half, middle + half);
+    else
+        judge_single(a);
 }
 
 static void judge_temperature(uint64_t pressure, uint64_t density, const eas_answer *a) {

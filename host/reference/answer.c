@@ -30,8 +30,12 @@ const char *answers_differ(const eas_answer *a, const eas_answer *b) {
         return "low.weight";
     if (a->low.value != b->low.value)
         return "low.value";
-    if (a->high.fit != b->high.fit || a->high.weight != b->high.weight || a->high.value != b->high.value)
-        return "high";
+    if (a->high.fit != b->high.fit)
+        return "high.fit";
+    if (a->high.weight != b->high.weight)
+        return "high.weight";
+    if (a->high.value != b->high.value)
+        return "high.value";
     return NULL;
 }
 
@@ -49,40 +53,79 @@ static bool taken(uint64_t over, uint64_t under, int64_t logarithm) {
     return allowed;
 }
 
-/* Free answer three and demand 3 on the temperature of a fit. */
-static const char *judge_kelvin(const temperature_piece *piece, const eas_answer *answer) {
-    if (answer->value <= 0)
+/* The fit at a place by the weight that the answer carries for it, which must be allowed. */
+static const char *judge_place(eas_edge *expected, int64_t y, int64_t z, const eas_edge *carried) {
+    const temperature_piece *piece = piece_at(y, z);
+    int64_t weight = piece->weighed ? carried->weight : 0;
+    if (piece->weighed && !weight_allowed(weight, exponent(piece->exponent, y, z)))
+        return "weight against free answer two";
+    expected->fit = (int64_t)fitted(piece, y, z, weight);
+    expected->weight = weight;
+    return NULL;
+}
+
+/* Free answer three and demand 3 on the temperature of the fit at a place. */
+static const char *judge_kelvin(int64_t y, int64_t z, int64_t fit, int64_t value) {
+    if (value <= 0)
         return "temperature not above 0";
-    int64_t g = (int64_t)floor_divide(answer->low.fit, 10000);
+    int64_t g = (int64_t)floor_divide(fit, 10000);
     const char *wrong = NULL;
     ratio_logarithm kelvin;
     logarithm_init(&kelvin);
-    logarithm_of(&kelvin, (uint64_t)answer->value, T0);
+    logarithm_of(&kelvin, (uint64_t)value, T0);
     if (logarithm_compare(&kelvin, g - 1) <= 0 || logarithm_compare(&kelvin, g + 2) >= 0)
         wrong = "temperature against free answer three";
     else
-        wrong = fit_claim(piece, answer->y, answer->z, answer->low.fit, &kelvin);
+        wrong = fit_claim(piece_at(y, z), y, z, fit, &kelvin);
     logarithm_clear(&kelvin);
     return wrong;
 }
 
-/* A temperature whose Z is above PERFECT_LIMIT; expected holds the logarithms. */
+static bool beyond(const eas_edge *edge) {
+    return edge->fit < 0 || edge->fit > HIGHEST_FIT;
+}
+
+/* The whole answer of a fit beyond its limits; expected holds the logarithms and every fit. */
+static const char *judge_beyond(eas_answer *expected, const eas_answer *answer) {
+    expected->number = 13;
+    return answers_differ(expected, answer);
+}
+
+/* A temperature whose Z is above PERFECT_LIMIT, outside the strips; expected holds the logarithms. */
 static const char *judge_fitted(eas_answer *expected, const eas_answer *answer) {
-    const temperature_piece *piece = piece_at(expected->y, expected->z);
-    int64_t weight = piece->weighed ? answer->low.weight : 0;
-    if (piece->weighed && !weight_allowed(weight, exponent(piece->exponent, expected->y, expected->z)))
-        return "weight against free answer two";
+    const char *wrong = judge_place(&expected->low, expected->y, expected->z, &answer->low);
+    if (wrong != NULL)
+        return wrong;
     expected->carries |= EAS_CARRIES_LOW;
-    expected->low.fit = (int64_t)fitted(piece, expected->y, expected->z, weight);
-    expected->low.weight = weight;
-    if (expected->low.fit < 0 || expected->low.fit > HIGHEST_FIT) {
-        expected->number = 13;
-        return answers_differ(expected, answer);
-    }
+    if (beyond(&expected->low))
+        return judge_beyond(expected, answer);
     expected->carries |= EAS_CARRIES_VALUE;
     expected->value = answer->value;
-    const char *differs = answers_differ(expected, answer);
-    return differs != NULL ? differs : judge_kelvin(piece, answer);
+    wrong = answers_differ(expected, answer);
+    return wrong != NULL ? wrong : judge_kelvin(expected->y, expected->z, expected->low.fit, expected->value);
+}
+
+/* The same inside a strip: two places with the state's Z, each with a temperature of its own. */
+static const char *judge_joined(eas_answer *expected, const density_strip *strip, const eas_answer *answer) {
+    const int64_t y[] = {strip->lower, strip->upper}, z = expected->z;
+    const eas_edge *const carried[] = {&answer->low, &answer->high};
+    eas_edge *const edges[] = {&expected->low, &expected->high};
+    const char *wrong = NULL;
+    for (int i = 0; i < 2 && wrong == NULL; i++)
+        wrong = judge_place(edges[i], y[i], z, carried[i]);
+    if (wrong != NULL)
+        return wrong;
+    expected->carries |= EAS_CARRIES_LOW | EAS_CARRIES_HIGH;
+    if (beyond(edges[0]) || beyond(edges[1]))
+        return judge_beyond(expected, answer);
+    for (int i = 0; i < 2; i++)
+        edges[i]->value = carried[i]->value;
+    expected->carries |= EAS_CARRIES_VALUE;
+    expected->value = (int64_t)straight_line(strip, expected->y, edges[0]->value, edges[1]->value);
+    wrong = answers_differ(expected, answer);
+    for (int i = 0; i < 2 && wrong == NULL; i++)
+        wrong = judge_kelvin(y[i], z, edges[i]->fit, edges[i]->value);
+    return wrong;
 }
 
 static const char *judge_temperature(uint64_t pressure, uint64_t density, const eas_answer *answer) {
@@ -98,8 +141,9 @@ static const char *judge_temperature(uint64_t pressure, uint64_t density, const 
         expected.number = 12;
         return answers_differ(&expected, answer);
     }
+    density_strip strip;
     if (expected.z > PERFECT_LIMIT)
-        return judge_fitted(&expected, answer);
+        return strip_of(expected.y, &strip) ? judge_joined(&expected, &strip, answer) : judge_fitted(&expected, answer);
     expected.carries |= EAS_CARRIES_VALUE;
     expected.value = (int64_t)floor_divide((wide)pressure * 10000000000000, (wide)density * 28706);
     return answers_differ(&expected, answer);

@@ -17,8 +17,7 @@ wide entropy_value(int64_t y, int64_t z) {
     density_strip strip;
     if (!strip_of(y, &strip))
         return value_at(y, z);
-    wide low = value_at(strip.lower, z), high = value_at(strip.upper, z);
-    return low + floor_divide((high - low) * (y - strip.lower), strip.upper - strip.lower);
+    return straight_line(&strip, y, value_at(strip.lower, z), value_at(strip.upper, z));
 }
 
 bool entropy_beyond(int64_t y, int64_t z) {

@@ -21,6 +21,7 @@ static void read_tables_once(void) {
             if (from->label == 0)
                 continue;
             to->label = from->label;
+            to->upper = from->upper;
             to->weighed = from->b[0] != NULL;
             read_numerals(to->a, from->a, BICUBIC_TERMS);
             read_numerals(to->b, from->b, BICUBIC_TERMS);
@@ -38,16 +39,21 @@ density_band band_of(int64_t y) {
     return y <= LOW_EDGE ? LOW_BAND : y <= HIGH_EDGE ? MIDDLE_BAND : HIGH_BAND;
 }
 
+const density_strip density_strips[STRIPS] = {{LOW_EDGE - LOW_HALF, LOW_EDGE + LOW_HALF},
+                                              {HIGH_EDGE - HIGH_HALF, HIGH_EDGE + HIGH_HALF}};
+
 bool strip_of(int64_t y, density_strip *strip) {
-    static const density_strip strips[] = {{LOW_EDGE - LOW_HALF, LOW_EDGE + LOW_HALF},
-                                           {HIGH_EDGE - HIGH_HALF, HIGH_EDGE + HIGH_HALF}};
-    for (int i = 0; i < 2; i++) {
-        if (strips[i].lower < y && y < strips[i].upper) {
-            *strip = strips[i];
+    for (int i = 0; i < STRIPS; i++) {
+        if (density_strips[i].lower < y && y < density_strips[i].upper) {
+            *strip = density_strips[i];
             return true;
         }
     }
     return false;
+}
+
+wide straight_line(const density_strip *strip, int64_t y, wide low, wide high) {
+    return low + floor_divide((high - low) * (y - strip->lower), strip->upper - strip->lower);
 }
 
 int64_t entropy_limit(density_band band) {

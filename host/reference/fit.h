@@ -15,10 +15,14 @@ typedef struct {
     int64_t lower, upper;
 } density_strip;
 
+enum { STRIPS = 2 };
+extern const density_strip density_strips[STRIPS];
+
 /* Coefficients in units of 10^-10. */
 typedef struct {
     int label;
-    bool weighed; /* has a B and an exponent */
+    int64_t upper; /* last Z of the piece */
+    bool weighed;  /* has a B and an exponent */
     int64_t a[BICUBIC_TERMS], b[BICUBIC_TERMS], exponent[EXPONENT_TERMS];
 } temperature_piece;
 
@@ -26,6 +30,10 @@ enum { PERFECT_LIMIT = 250000, LOWEST_Z = -1000000, HIGHEST_Z = 3000000, ENTROPY
 
 density_band band_of(int64_t y);
 bool strip_of(int64_t y, density_strip *strip);
+
+/* The straight line from low at the lower edge to high at the upper one, its rise to Y rounded down. */
+wide straight_line(const density_strip *strip, int64_t y, wide low, wide high);
+
 int64_t entropy_limit(density_band band);
 
 /* Z above PERFECT_LIMIT, up to HIGHEST_Z. */

@@ -70,7 +70,8 @@ tells_what_is_missing() {
         verdict "Given sheet" 1 PASSED && verdict "Given sheet" 2 PASSED && verdict "Given sheet" 5 INCOMPLETE &&
         verdict "Given sheet" 3 "NO STATE TO LOOK AT, no pass for this sheet" &&
         verdict "Given sheet" 4 "NO STATE TO LOOK AT, no pass for this sheet" &&
-        has "- a hot state on the lower density edge" "2 passed, 0 failed, 3 lack a state"
+        has "- a hot state on the lower density edge" "- a hot state beside the strip at the upper density edge" \
+            "2 passed, 0 failed, 3 lack a state"
 }
 
 # The states that the checklist names as examples are what a sheet needs.
@@ -78,7 +79,7 @@ passes_complete_sheet() {
     sheet "$work/names.eas" name,pressure_Pa,density_kg_m3 'nose/cap 1,101330,1.292' 42,101330,1.292 plain,50665,1.292
     status 1 "$build/checklist" "$work/names.eas"
     group "Given sheet" | sed -n 's|.*(such as \([0-9.]*\) Pa, \([0-9.]*\) kg/m³)|\1,\2|p' > "$work/examples"
-    test "$(wc -l < "$work/examples")" -eq 8 || return 1
+    test "$(wc -l < "$work/examples")" -eq 10 || return 1
     awk '{ print "state-" NR "," $0 }' "$work/examples" >> "$work/states.csv"
     "$build/sheet_tool" pack -o "$work/complete.eas" "$work/states.csv" &&
         status 0 "$build/checklist" "$work/complete.eas" && all_pass "Given sheet" && all_pass "Shipped samples" &&
@@ -106,10 +107,15 @@ takes_percent_forms() {
 
 # ---- faults
 
-# finds FAULT [ENTRY]: the fault's own check fails, and no other, on the samples and on a given sheet.
+# finds FAULT CHECK [ENTRY]: this check fails, and no other, on the samples and on a given sheet.
 finds() {
-    status 1 env FAULT="$1" ENTRY="$2" "$build/faults" "$work/complete.eas" && fails_only "Shipped samples" "$1" &&
-        fails_only "Given sheet" "$1"
+    status 1 env FAULT="$1" ENTRY="$3" "$build/faults" "$work/complete.eas" && fails_only "Shipped samples" "$2" &&
+        fails_only "Given sheet" "$2"
+}
+
+# names_cause FAULT WORDS: the mistake is told in words.
+names_cause() {
+    status 1 env FAULT="$1" "$build/faults" "$work/complete.eas" && has "(wrong: $2"
 }
 
 # A wrong state that no check looks at is told too.
@@ -155,11 +161,16 @@ expect "names like their rows cannot tell" needs_names_unlike_rows
 expect "a name that was never decoded is called out" calls_out nose%2Fcap%201 nose%2Fcap%201 nose%252Fcap%25201
 expect "a name that was encoded in part is called out" calls_out nose/cap%201 nose%2Fcap%201 nose%2Fcap%25201
 expect "a percent form may be a name's own" takes_percent_forms
-for fault in 1 2 3 4 5; do
+for fault in 1 2 3 4 5 7; do
+    check=$fault
+    test $fault -ne 7 || check=3
     for entry in "" search plot line list; do
-        expect "fault $fault is found, by ${entry:-every entry}" finds $fault $entry
+        expect "fault $fault is found, by ${entry:-every entry}" finds $fault $check $entry
     done
 done
+expect "a neighbour's curve is named" names_cause 3 "by the curve of the neighbouring density range)"
+expect "a missing join is named" names_cause 7 "by the curve of one density range, not joined between two)"
+expect "a lost sign is named" names_cause 4 "the two curves of the transition are weighed the wrong way round)"
 expect "a wrong state that no check looks at is found" finds_other_state
 expect "what the document cites stands" cites_what_stands
 expect "the document has the examples" documents_examples

@@ -1,13 +1,15 @@
 /* Linked in front of the library by the linker's --wrap, this gives the answers of a wrong calculator. In the
- * environment FAULT is the fault, 1 to 5, which the check of that number in the checklist must find, and ENTRY the one
- * entry that has it: search, plot or line; without ENTRY, or with an empty one, all have it and eas_evaluate too.
+ * environment FAULT is the fault, of which 1 to 5 must be found by the check of that number in the checklist, and ENTRY
+ * the one entry that has it: search, plot, line or list; without ENTRY, or with an empty one, all have it and
+ * eas_evaluate too.
  *
  *   1  the search gives 9 for every name with a percent form
  *   2  a name of digits is taken as the number of a row
- *   3  the lower band's polynomials are used up to 0.01 above each density edge
- *   4  the weight's sign is lost in the temperature alone, while the fit and its weight look right
+ *   3  the lower band's polynomials are used from each density edge to 0.01 above its strip
+ *   4  the weight's sign is lost in the temperatures alone, while the fits and their weights look right
  *   5  refusals 12 and 13 are replaced by 5,000 K
  *   6  a perfect gas is a microkelvin too hot, for the states that no check looks at
+ *   7  temperatures are not joined: each has the polynomials of its own density's band; check 3 must find it
  */
 #include <ctype.h>
 #include <math.h>
@@ -66,23 +68,40 @@ static int64_t microkelvin(int64_t fit) {
     return llrintl((long double)T0 * powl(10, (long double)fit / (long double)ONE));
 }
 
+/* By the curves of the range that holds range_y, at the state's own density. */
+static void use_one_range(eas_answer *a, int64_t range_y) {
+    const temperature_piece *piece = piece_at(range_y, a->z);
+    int64_t weight = weight_at(piece, a->y, a->z);
+    a->low = (eas_edge){.fit = (int64_t)fitted(piece, a->y, a->z, weight), .weight = weight};
+    a->high = (eas_edge){0};
+    a->carries &= ~(uint32_t)EAS_CARRIES_HIGH;
+    a->value = microkelvin(a->low.fit);
+}
+
 static void use_lower_band(eas_answer *a) {
-    static const int64_t edges[] = {-4500000, -500000};
-    for (int i = 0; i < 2; i++) {
-        if (a->y <= edges[i] || a->y > edges[i] + 10000)
-            continue;
-        const temperature_piece *piece = piece_at(edges[i], a->z);
-        a->low.weight = weight_at(piece, a->y, a->z);
-        a->low.fit = (int64_t)fitted(piece, a->y, a->z, a->low.weight);
-        a->value = microkelvin(a->low.fit);
+    for (int i = 0; i < STRIPS; i++) {
+        const density_strip *strip = &density_strips[i];
+        if (a->y > (strip->lower + strip->upper) / 2 && a->y <= strip->upper + 10000)
+            use_one_range(a, strip->lower);
     }
 }
 
-/* Below 0 the exponent's weight is 1 less that of its size. */
+/* A fit's temperature with the sign lost. Below 0 the exponent's weight is 1 less that of its size. */
+static int64_t without_sign(int64_t y, int64_t z, int64_t weight, int64_t value) {
+    const temperature_piece *piece = piece_at(y, z);
+    bool lost = piece->weighed && exponent(piece->exponent, y, z) < 0;
+    return lost ? microkelvin((int64_t)fitted(piece, y, z, ONE - weight)) : value;
+}
+
 static void lose_sign(eas_answer *a) {
-    const temperature_piece *piece = piece_at(a->y, a->z);
-    if (piece->weighed && exponent(piece->exponent, a->y, a->z) < 0)
-        a->value = microkelvin((int64_t)fitted(piece, a->y, a->z, ONE - a->low.weight));
+    density_strip strip;
+    if (!strip_of(a->y, &strip)) {
+        a->value = without_sign(a->y, a->z, a->low.weight, a->value);
+        return;
+    }
+    a->low.value = without_sign(strip.lower, a->z, a->low.weight, a->low.value);
+    a->high.value = without_sign(strip.upper, a->z, a->high.weight, a->high.value);
+    a->value = (int64_t)straight_line(&strip, a->y, a->low.value, a->high.value);
 }
 
 static void show_anyway(eas_answer *a) {
@@ -101,6 +120,8 @@ static eas_answer faulty_value(eas_answer a) {
         show_anyway(&a);
     if (fault() == 6 && a.letter == 'T' && !a.number && !is_fit)
         a.value++;
+    if (fault() == 7 && is_fit && a.carries & EAS_CARRIES_HIGH)
+        use_one_range(&a, a.y);
     return a;
 }
 

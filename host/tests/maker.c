@@ -7,60 +7,84 @@
 
 static mistake made;
 
-static const char *const names[MISTAKES] = {
-    "nearest choices",
-    "logarithms rounded down",
-    "logarithms rounded up",
-    "the weight is 9 less than the nearest",
-    "the weight is 9 more than the nearest",
-    "the lowest temperature of free answer three",
-    "the highest temperature of free answer three",
-    "logarithms one below the lowest",
-    "logarithms one above the highest",
-    "the weight is 11 less than the nearest",
-    "the weight is 11 more than the nearest",
-    "the temperature is one below the lowest",
-    "the temperature is one above the highest",
-    "G at its limit is refused",
-    "G one unit above its limit is taken",
-    "a density edge belongs to the upper band",
-    "the weight goes to A",
-    "the weight has the other sign of the exponent",
-    "the weight is always one half",
-    "the series stops after ten terms",
-    "every division goes toward zero",
-    "the fraction of W and B goes toward zero",
-    "mul rounds only once over a whole part",
-    "Y and Z change places in a part",
-    "Z is the sum of X and Y",
-    "Z is taken of a ratio of its own",
-    "the next piece's polynomials are used",
-    "a piece's upper end belongs to the next",
-    "the perfect gas ends before its end",
-    "the perfect gas rounds up",
-    "the window's ends are refused",
-    "the temperature is the same for all states",
-    "the temperature is joined in a strip",
-    "the first number of label 370's B has a minus",
-    "a strip's edges belong to the join",
-    "there is no join",
-    "the join rounds toward zero",
-    "the join runs from the upper edge",
-    "an entropy's limit is refused",
-    "a strip tests one limit only",
-    "the entropy's perfect gas ends before its end",
-    "the entropy's bicubic rounds only at the end",
-    "the density is tested first",
-    "the kind is tested last",
-    "the ends of the ranges are refused",
-    "a refusal 12 holds no logarithms",
-    "a refusal 13 holds no fit",
-    "everything is refused with 12",
-    "nothing is refused with 12 or 13",
+static const struct {
+    const char *name, *kinds;
+} table[MISTAKES] = {
+    [NO_MISTAKE] = {"nearest choices", "012"},
+    [LOGARITHMS_DOWN] = {"logarithms rounded down", "12"},
+    [LOGARITHMS_UP] = {"logarithms rounded up", "12"},
+    [WEIGHT_LOWEST] = {"the weight is 9 less than the nearest", "1"},
+    [WEIGHT_HIGHEST] = {"the weight is 9 more than the nearest", "1"},
+    [TEMPERATURE_LOWEST] = {"the lowest temperature of free answer three", "1"},
+    [TEMPERATURE_HIGHEST] = {"the highest temperature of free answer three", "1"},
+    [EDGES_APART] = {"the lowest at a strip's lower edge, the highest above", "1"},
+    [LOGARITHMS_TOO_LOW] = {"logarithms one below the lowest", "12"},
+    [LOGARITHMS_TOO_HIGH] = {"logarithms one above the highest", "12"},
+    [WEIGHT_TOO_LOW] = {"the weight is 11 less than the nearest", "1"},
+    [WEIGHT_TOO_HIGH] = {"the weight is 11 more than the nearest", "1"},
+    [TEMPERATURE_TOO_LOW] = {"the temperature is one below the lowest", "1"},
+    [TEMPERATURE_TOO_HIGH] = {"the temperature is one above the highest", "1"},
+    [FIT_LIMIT_EXCLUDED] = {"G at its limit is refused", "1"},
+    [FIT_LIMIT_PASSED] = {"G one unit above its limit is taken", "1"},
+    [WEIGHT_ON_A] = {"the weight goes to A", "1"},
+    [WEIGHT_OF_OTHER_SIGN] = {"the weight has the other sign of the exponent", "1"},
+    [WEIGHT_STUCK_AT_HALF] = {"the weight is always one half", "1"},
+    [SERIES_TOO_SHORT] = {"the series stops after ten terms", "1"},
+    [ALL_TOWARD_ZERO] = {"every division goes toward zero", "12"},
+    [FRACTION_TOWARD_ZERO] = {"the fraction of W and B goes toward zero", "1"},
+    [MUL_BY_TRUNCATED_SUM] = {"mul rounds only once over a whole part", "12"},
+    [TERMS_SWAPPED] = {"Y and Z change places in a part", "12"},
+    [Z_IS_SUM] = {"Z is the sum of X and Y", "1"},
+    [Z_FROM_RATIO] = {"Z is taken of a ratio of its own", "1"},
+    [NEXT_PIECE] = {"the next piece's polynomials are used", "1"},
+    [PIECE_END_EXCLUDED] = {"a piece's upper end belongs to the next", "1"},
+    [PERFECT_END_FITTED] = {"the perfect gas ends before its end", "1"},
+    [PERFECT_ROUNDED_UP] = {"the perfect gas rounds up", "1"},
+    [WINDOW_END_EXCLUDED] = {"the window's ends are refused", "1"},
+    [TEMPERATURE_CONSTANT] = {"the temperature is the same for all states", "1"},
+    [SIGN_OF_LATER_LISTING] = {"the first number of label 370's B has a minus", "1"},
+    [STRIP_EDGE_INCLUDED] = {"a strip's edges belong to the join", "12"},
+    [STRIP_LEFT_OUT] = {"there is no join", "12"},
+    [STRIP_WIDTHS_EXCHANGED] = {"each strip has the other's width", "12"},
+    [JOIN_TOWARD_ZERO] = {"the join rounds toward zero", "12"},
+    [JOIN_TO_NEAREST] = {"the join rounds to the nearest", "12"},
+    [JOIN_FROM_UPPER_EDGE] = {"the join runs from the upper edge", "12"},
+    [JOIN_SHARES_SWAPPED] = {"each edge has the other's share in the join", "12"},
+    [JOIN_OF_EXPONENTS] = {"the join runs between the exponents", "1"},
+    [EDGE_TAKES_OWN_Z] = {"an edge takes X minus its own Y for Z", "1"},
+    [EDGE_TAKES_STATES_BAND] = {"both edges take the state's own band", "1"},
+    [EDGE_WEIGHT_TWICE] = {"the lower edge's weight is used at both", "1"},
+    [EDGE_FIT_TWICE] = {"the lower edge's fit is used at both", "1"},
+    [EDGES_SWAPPED] = {"the edges are carried in each other's place", "1"},
+    [EDGE_TEMPERATURES_LOST] = {"a join carries no edge temperatures", "1"},
+    [STATES_FIT_CARRIED] = {"a join carries the state's own fit", "1"},
+    [LOWER_EDGE_TESTED] = {"13 is tested at the lower edge only", "1"},
+    [UPPER_EDGE_TESTED] = {"13 is tested at the upper edge only", "1"},
+    [STATES_FIT_TESTED] = {"13 is tested at the state's own Y", "1"},
+    [STRIP_TESTED_FIRST] = {"13 comes before 12 in a strip", "1"},
+    [PERFECT_GAS_FITTED_IN_STRIP] = {"a perfect gas is fitted and joined in a strip", "1"},
+    [PERFECT_GAS_BY_Z_IN_STRIP] = {"a perfect gas goes by Z alone in a strip", "1"},
+    [LIMIT_EXCLUDED] = {"an entropy's limit is refused", "2"},
+    [LIMIT_OF_OWN_BAND] = {"a strip tests one limit only", "2"},
+    [ENTROPY_END_EXCLUDED] = {"the entropy's perfect gas ends before its end", "2"},
+    [BICUBIC_ONE_ROUNDING] = {"a bicubic rounds only at the end", "12"},
+    [DENSITY_TESTED_FIRST] = {"the density is tested first", "12"},
+    [KIND_TESTED_LAST] = {"the kind is tested last", "0"},
+    [RANGE_END_EXCLUDED] = {"the ends of the ranges are refused", "12"},
+    [REFUSAL_WITHOUT_LOGS] = {"a refusal 12 holds no logarithms", "12"},
+    [REFUSAL_WITHOUT_FIT] = {"a refusal 13 holds no fit", "1"},
+    [REFUSAL_WITHOUT_UPPER_FIT] = {"a refusal 13 of a strip holds one fit", "1"},
+    [REFUSAL_WITH_TEMPERATURES] = {"a refusal 13 of a strip holds edge temperatures", "1"},
+    [REFUSES_ALWAYS] = {"everything is refused with 12", "12"},
+    [REFUSES_NEVER] = {"nothing is refused with 12 or 13", "12"},
 };
 
 const char *mistake_name(mistake m) {
-    return names[m];
+    return table[m].name;
+}
+
+const char *mistake_kinds(mistake m) {
+    return table[m].kinds;
 }
 
 static wide divide(wide a, wide b) {
@@ -72,7 +96,7 @@ static wide mul(wide a, int64_t b) {
 }
 
 static wide polynomial(const int64_t c[BICUBIC_TERMS], int64_t y, int64_t z) {
-    if (made == ENTROPY_ONE_ROUNDING)
+    if (made == BICUBIC_ONE_ROUNDING)
         return floor_divide(exact_bicubic(c, y, z), 1000000000000000000);
     int64_t third = made == TERMS_SWAPPED ? y : z, other = made == TERMS_SWAPPED ? z : y;
     wide sum = c[0] + mul(c[1], y) + mul(c[2] + mul(c[3], y), z);
@@ -133,8 +157,6 @@ static int64_t weight(wide units) {
 
 static const temperature_piece *chosen_piece(int64_t y, int64_t z) {
     static temperature_piece changed;
-    if (made == EDGE_IN_UPPER_BAND)
-        y++;
     if (made == NEXT_PIECE)
         z += 500000;
     if (made == PIECE_END_EXCLUDED)
@@ -151,11 +173,11 @@ static long double kelvin_at(int64_t millionths) {
     return (long double)T0 * powl(10.0L, (long double)millionths / 1000000.0L);
 }
 
-static int64_t kelvin_of(int64_t fit) {
-    if (made == TEMPERATURE_CONSTANT)
-        return 3000000000;
+static int64_t kelvin_of(int64_t fit, mistake choice) {
     int64_t g = (int64_t)floor_divide(fit, 10000);
-    switch (made) {
+    switch (choice) {
+    case TEMPERATURE_CONSTANT:
+        return 3000000000;
     case TEMPERATURE_TOO_LOW:
         return (int64_t)floorl(kelvin_at(g - 1));
     case TEMPERATURE_LOWEST:
@@ -169,18 +191,23 @@ static int64_t kelvin_of(int64_t fit) {
     }
 }
 
+static int64_t weight_at(const temperature_piece *piece, int64_t y, int64_t z) {
+    const int64_t *c = piece->exponent;
+    return piece->weighed ? weight(c[0] + mul(c[1], y) + mul(c[2], z) + mul(mul(c[3], y), z)) : 0;
+}
+
+static eas_edge fit_with(const temperature_piece *piece, int64_t y, int64_t z, int64_t weight) {
+    wide a = polynomial(piece->a, y, z), b = polynomial(piece->b, y, z);
+    wide product = weight * (made == WEIGHT_ON_A ? a : b), one = 10000000000;
+    wide share = made == FRACTION_TOWARD_ZERO ? product / one : divide(product, one);
+    if (!piece->weighed)
+        return (eas_edge){.fit = (int64_t)a};
+    return (eas_edge){.fit = (int64_t)(made == WEIGHT_ON_A ? b + share : a + share), .weight = weight};
+}
+
 static eas_edge fit_at(int64_t y, int64_t z) {
     const temperature_piece *piece = chosen_piece(y, z);
-    wide a = polynomial(piece->a, y, z), b = polynomial(piece->b, y, z);
-    eas_edge edge = {.fit = (int64_t)a};
-    if (!piece->weighed)
-        return edge;
-    const int64_t *c = piece->exponent;
-    edge.weight = weight(c[0] + mul(c[1], y) + mul(c[2], z) + mul(mul(c[3], y), z));
-    wide product = edge.weight * (made == WEIGHT_ON_A ? a : b), one = 10000000000;
-    wide share = made == FRACTION_TOWARD_ZERO ? product / one : divide(product, one);
-    edge.fit = (int64_t)(made == WEIGHT_ON_A ? b + share : a + share);
-    return edge;
+    return fit_with(piece, y, z, weight_at(piece, y, z));
 }
 
 static eas_answer refused(eas_answer a, uint32_t number) {
@@ -197,23 +224,137 @@ static eas_answer shown(eas_answer a, int64_t value) {
     return a;
 }
 
+static bool beyond(eas_edge edge) {
+    int64_t limit = HIGHEST_FIT + (made == FIT_LIMIT_PASSED) - (made == FIT_LIMIT_EXCLUDED);
+    return (edge.fit < 0 || edge.fit > limit) && made != REFUSES_NEVER;
+}
+
+/* The temperature of a fit; of one that is far beyond the limits, that of a nearer one. */
+static int64_t kelvin_within(eas_edge edge, mistake choice) {
+    return kelvin_of(edge.fit < 0 ? 0 : edge.fit > 20000000000 ? 20000000000 : edge.fit, choice);
+}
+
+static bool strip_for(int64_t y, density_strip *strip) {
+    int64_t shift = y < -2500000 ? 4000000 : -4000000;
+    switch (made) {
+    case STRIP_LEFT_OUT:
+        return false;
+    case STRIP_EDGE_INCLUDED:
+        return strip_of(y - 1, strip) || strip_of(y, strip) || strip_of(y + 1, strip);
+    case STRIP_WIDTHS_EXCHANGED:
+        if (!strip_of(y + shift, strip))
+            return false;
+        strip->lower -= shift;
+        strip->upper -= shift;
+        return true;
+    default:
+        return strip_of(y, strip);
+    }
+}
+
+static wide join(density_strip strip, int64_t y, wide low, wide high) {
+    wide width = strip.upper - strip.lower, rise = (high - low) * (y - strip.lower),
+         fall = (high - low) * (strip.upper - y);
+    switch (made) {
+    case JOIN_TOWARD_ZERO:
+        return low + rise / width;
+    case JOIN_TO_NEAREST:
+        return low + floor_divide(2 * rise + width, 2 * width);
+    case JOIN_FROM_UPPER_EDGE:
+        return high - floor_divide(fall, width);
+    case JOIN_SHARES_SWAPPED:
+        return low + floor_divide(fall, width);
+    default:
+        return low + divide(rise, width);
+    }
+}
+
+static eas_edge edge_at(const eas_answer *a, int64_t y) {
+    int64_t z = made == EDGE_TAKES_OWN_Z ? a->x - y : a->z;
+    const temperature_piece *piece = chosen_piece(made == EDGE_TAKES_STATES_BAND ? a->y : y, z);
+    int64_t weight = made == EDGE_WEIGHT_TWICE && piece->weighed && y > a->y ? a->low.weight : weight_at(piece, y, z);
+    return fit_with(piece, y, z, weight);
+}
+
+static bool edges_beyond(const eas_answer *a) {
+    switch (made) {
+    case LOWER_EDGE_TESTED:
+        return beyond(a->low);
+    case UPPER_EDGE_TESTED:
+        return beyond(a->high);
+    case STATES_FIT_TESTED:
+        return beyond(fit_at(a->y, a->z));
+    default:
+        return beyond(a->low) || beyond(a->high);
+    }
+}
+
+static eas_answer refused_strip(eas_answer a) {
+    if (made != REFUSAL_WITH_TEMPERATURES)
+        a.low.value = a.high.value = 0;
+    if (made == REFUSAL_WITHOUT_UPPER_FIT) {
+        a.high = (eas_edge){0};
+        a.carries ^= EAS_CARRIES_HIGH;
+    }
+    return refused(a, 13);
+}
+
+/* A join that carries its edges otherwise than it should. */
+static eas_answer carried_otherwise(eas_answer a) {
+    eas_edge low = a.low;
+    switch (made) {
+    case EDGES_SWAPPED:
+        a.low = a.high;
+        a.high = low;
+        return a;
+    case EDGE_TEMPERATURES_LOST:
+        a.low.value = a.high.value = 0;
+        return a;
+    case STATES_FIT_CARRIED:
+        a.low = fit_at(a.y, a.z);
+        a.high = (eas_edge){0};
+        a.carries ^= EAS_CARRIES_HIGH;
+        return a;
+    default:
+        return a;
+    }
+}
+
+static eas_answer joined_temperature(eas_answer a, density_strip strip) {
+    a.low = edge_at(&a, strip.lower);
+    a.high = made == EDGE_FIT_TWICE ? a.low : edge_at(&a, strip.upper);
+    a.low.value = kelvin_within(a.low, made == EDGES_APART ? TEMPERATURE_LOWEST : made);
+    a.high.value = kelvin_within(a.high, made == EDGES_APART ? TEMPERATURE_HIGHEST : made);
+    a.carries |= EAS_CARRIES_LOW | EAS_CARRIES_HIGH;
+    if (edges_beyond(&a))
+        return refused_strip(a);
+    wide kelvin = join(strip, a.y, a.low.value, a.high.value);
+    if (made == JOIN_OF_EXPONENTS)
+        kelvin = kelvin_of((int64_t)join(strip, a.y, a.low.fit, a.high.fit), made);
+    return shown(carried_otherwise(a), (int64_t)kelvin);
+}
+
 static eas_answer fitted_temperature(eas_answer a) {
     density_strip strip;
-    int64_t limit = HIGHEST_FIT + (made == FIT_LIMIT_PASSED) - (made == FIT_LIMIT_EXCLUDED);
+    if (strip_for(a.y, &strip))
+        return joined_temperature(a, strip);
     a.low = fit_at(a.y, a.z);
     a.carries |= EAS_CARRIES_LOW;
-    if ((a.low.fit < 0 || a.low.fit > limit) && made != REFUSES_NEVER)
-        return refused(a, 13);
-    int64_t kelvin = kelvin_of(a.low.fit < 0 ? 0 : a.low.fit > 20000000000 ? 20000000000 : a.low.fit);
-    if (made == TEMPERATURE_JOINED && strip_of(a.y, &strip)) {
-        wide low = kelvin_of(fit_at(strip.lower, a.z).fit), high = kelvin_of(fit_at(strip.upper, a.z).fit);
-        kelvin = (int64_t)(low + divide((high - low) * (a.y - strip.lower), strip.upper - strip.lower));
-    }
-    return shown(a, kelvin);
+    return beyond(a.low) ? refused(a, 13) : shown(a, kelvin_within(a.low, made));
+}
+
+/* The perfect gas's temperature; in a strip, Z gives the same at both edges. */
+static int64_t perfect_kelvin(uint64_t p, uint64_t d, int64_t z, bool inside) {
+    const wide unit = 10000000000000, gas = 28706;
+    wide over = p * unit, under = d * gas, standard = P0 * unit / (D0 * gas);
+    if (made == PERFECT_GAS_BY_Z_IN_STRIP && inside)
+        return (int64_t)floorl((long double)standard * powl(10.0L, (long double)z / 1000000.0L));
+    return (int64_t)((over + (made == PERFECT_ROUNDED_UP ? under - 1 : 0)) / under);
 }
 
 static eas_answer temperature(uint64_t p, uint64_t d) {
     eas_answer a = {.letter = 'T', .carries = EAS_CARRIES_LOGS | EAS_CARRIES_X};
+    density_strip strip;
     a.x = logarithm(p, P0);
     a.y = logarithm(d, D0);
     a.z = made == Z_IS_SUM ? a.x + a.y : a.x - a.y;
@@ -221,53 +362,38 @@ static eas_answer temperature(uint64_t p, uint64_t d) {
         a.z =
             llrintl(1000000.0L * (log10l((long double)p / (long double)P0) - log10l((long double)d / (long double)D0)));
     int64_t end = made == WINDOW_END_EXCLUDED ? 1 : 0;
-    if (made == REFUSES_ALWAYS || (made != REFUSES_NEVER && (a.z < LOWEST_Z + end || a.z > HIGHEST_Z - end)))
-        return refused(a, 12);
-    if (a.z > PERFECT_LIMIT - (made == PERFECT_END_FITTED ? 1 : 0))
+    bool inside = strip_of(a.y, &strip), outside_window = a.z < LOWEST_Z + end || a.z > HIGHEST_Z - end;
+    if (made == STRIP_TESTED_FIRST && inside && a.z > HIGHEST_Z)
         return fitted_temperature(a);
-    wide over = (wide)p * 10000000000000, under = (wide)d * 28706;
-    return shown(a, (int64_t)((over + (made == PERFECT_ROUNDED_UP ? under - 1 : 0)) / under));
-}
-
-static density_band entropy_band(int64_t y) {
-    return band_of(made == EDGE_IN_UPPER_BAND ? y + 1 : y);
+    if (made == REFUSES_ALWAYS || (made != REFUSES_NEVER && outside_window))
+        return refused(a, 12);
+    if (a.z > PERFECT_LIMIT - (made == PERFECT_END_FITTED ? 1 : 0) || (made == PERFECT_GAS_FITTED_IN_STRIP && inside))
+        return fitted_temperature(a);
+    return shown(a, perfect_kelvin(p, d, a.z, inside));
 }
 
 static wide plain_entropy(int64_t y, int64_t z) {
     if (z <= ENTROPY_PERFECT_LIMIT - (made == ENTROPY_END_EXCLUDED ? 1 : 0))
         return 67792004 + divide((5 * (z - 400000) - 2 * (wide)y) * 28706 * 2302585, 20000000000);
-    return divide(28706 * polynomial(entropy_coefficients(entropy_band(y)), y, z), 100000000);
-}
-
-static bool strip_for_entropy(int64_t y, density_strip *strip) {
-    if (made == STRIP_LEFT_OUT)
-        return false;
-    if (made != STRIP_EDGE_INCLUDED)
-        return strip_of(y, strip);
-    return strip_of(y - 1, strip) || strip_of(y, strip) || strip_of(y + 1, strip);
+    return divide(28706 * polynomial(entropy_coefficients(band_of(y)), y, z), 100000000);
 }
 
 static bool above_limit(int64_t y, int64_t z) {
-    return z > entropy_limit(entropy_band(y)) - (made == LIMIT_EXCLUDED ? 1 : 0);
+    return z > entropy_limit(band_of(y)) - (made == LIMIT_EXCLUDED ? 1 : 0);
 }
 
 static eas_answer entropy(uint64_t e, uint64_t d) {
     eas_answer a = {.letter = 'S', .carries = EAS_CARRIES_LOGS, .y = logarithm(d, D0), .z = logarithm(e, E0)};
     density_strip strip;
-    bool joined = strip_for_entropy(a.y, &strip);
-    bool beyond = joined ? above_limit(strip.lower, a.z) || above_limit(strip.upper, a.z) : above_limit(a.y, a.z);
+    bool joined = strip_for(a.y, &strip);
+    bool above = joined ? above_limit(strip.lower, a.z) || above_limit(strip.upper, a.z) : above_limit(a.y, a.z);
     if (made == LIMIT_OF_OWN_BAND)
-        beyond = above_limit(a.y, a.z);
-    if (made == REFUSES_ALWAYS || (beyond && made != REFUSES_NEVER))
+        above = above_limit(a.y, a.z);
+    if (made == REFUSES_ALWAYS || (above && made != REFUSES_NEVER))
         return refused(a, 12);
     if (!joined)
         return shown(a, (int64_t)plain_entropy(a.y, a.z));
-    wide low = plain_entropy(strip.lower, a.z), high = plain_entropy(strip.upper, a.z),
-         width = strip.upper - strip.lower;
-    wide rise = (high - low) * (a.y - strip.lower);
-    if (made == JOIN_TURNED_AROUND)
-        return shown(a, (int64_t)(high - floor_divide((high - low) * (strip.upper - a.y), width)));
-    return shown(a, (int64_t)(low + (made == JOIN_TOWARD_ZERO ? rise / width : divide(rise, width))));
+    return shown(a, (int64_t)join(strip, a.y, plain_entropy(strip.lower, a.z), plain_entropy(strip.upper, a.z)));
 }
 
 static bool out_of_range(uint64_t number, uint64_t low, uint64_t high) {

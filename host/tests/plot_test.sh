@@ -38,12 +38,72 @@ shows() {
     texts "$1" | grep -qxF "$2"
 }
 
+# lacks FILE.svg TEXT
+lacks() {
+    ! shows "$@"
+}
+
+# drawn_as FILE.svg NAME SHAPE: the mark's element, the line behind its title.
+drawn_as() {
+    grep -A 1 "<title>[0-9]*  $2: " "$1" | tail -n 1 | tee "$work/mark" | grep "^<$3" || { cat "$work/mark"; return 1; }
+}
+disc='circle .* fill="#' ring='circle .* fill="none"' diamond=polygon
+
+# shades FILE.svg COUNT: how many strips are shaded, two of them in the bar on top.
+shades() {
+    test "$(grep -c 'polygon .*fill="#b8d4f7"' "$1")" -eq "$2"
+}
+
 for sample in $(basename -s .csv samples/*.csv); do
     expect "$sample is drawn" draws $sample
     expect "$sample: the drawing is XML" is_xml "$work/$sample.svg"
     expect "$sample: the strip at -4.5" shows "$work/$sample.svg" "join at -4.5 ± 0.025"
     expect "$sample: the strip at -0.5" shows "$work/$sample.svg" "join at -0.5 ± 0.005"
 done
+
+# Joins: where they are drawn and how they are called.
+joins="joined between two bands (shaded strips)"
+for name in "edge/low" "strip/T low 5" "strip/T high 1" "just inside/T 1" "strip/low 1" "strip/high 2"; do
+    expect "$name is a join" drawn_as "$work/slash-and-space.svg" "$name" "$diamond"
+done
+for name in "strip edge/T 1" "strip edge/T 2" "strip edge/1" "strip edge/4"; do
+    expect "$name is none" drawn_as "$work/slash-and-space.svg" "$name" "$disc"
+done
+expect "a perfect gas in a strip is no join" drawn_as "$work/slash-and-space.svg" "strip/cold low" "$ring"
+expect "joined temperatures are explained" shows "$work/slash-and-space.svg" "temperature, $joins"
+expect "joined entropies are explained" shows "$work/slash-and-space.svg" "entropy, $joins"
+expect "where there is none it is not" lacks "$work/shock-tunnel.svg" "temperature, $joins"
+expect "strips of both kinds" shades "$work/slash-and-space.svg" 6
+printf 'name,pressure_Pa,density_kg_m3\nwarm,36000,0.41\ncold,24000,0.405\n' | "$tool" pack > "$work/cold.eas"
+"$plot" "$work/cold.eas" "$work/cold.svg"
+expect "no strip among perfect gases alone" shades "$work/cold.svg" 2
+
+# The stored pictures, each drawn by "plot samples/NAME.eas", have the marks of today; where labels stand depends on the
+# fonts.
+marks() {
+    grep -E '^<(g><title>|circle|polygon)' "$1"
+}
+pictured() {
+    marks "../docs/$1.svg" > "$work/stored"
+    marks "$work/$1.svg" | cmp - "$work/stored"
+}
+for picture in slash-and-space shock-tunnel slow-expansion; do
+    expect "docs/$picture.svg is what is drawn" pictured $picture
+done
+
+# docs/slow-expansion-before.svg was drawn with library 2.0.0, which joins no temperature: every joined state differs from
+# it, and no other.
+titles() {
+    grep -o '<title>[^<]*' "$1" | sort
+}
+differ_where_joined() {
+    titles ../docs/slow-expansion-before.svg > "$work/before"
+    titles "$work/slow-expansion.svg" | comm -13 "$work/before" - > "$work/changed"
+    grep -B 1 '^<polygon' "$work/slow-expansion.svg" | grep -o '<title>[^<]*' | sort > "$work/joined"
+    test -s "$work/joined" && cmp "$work/changed" "$work/joined"
+}
+expect "a join changes the joined states alone" differ_where_joined
+
 expect "every name of the slash-and-space lab" names_all samples/slash-and-space.eas "$work/slash-and-space.svg"
 expect "every name of digits only" names_all samples/digits-only.eas "$work/digits-only.svg"
 expect "a name with a slash and a space" shows "$work/sample.svg" "nose/cap 1"

@@ -13,8 +13,8 @@ enum { RANDOM_STATES = 10000, JUDGED_PER_MISTAKE = 400 };
 
 /* A mistake whose answers may happen to lie within a free answer's tolerance. */
 static bool may_be_allowed(mistake m) {
-    return m == WEIGHT_OF_OTHER_SIGN || m == WEIGHT_STUCK_AT_HALF || m == SERIES_TOO_SHORT || m == TEMPERATURE_JOINED ||
-           m == TEMPERATURE_CONSTANT;
+    return m == WEIGHT_OF_OTHER_SIGN || m == WEIGHT_STUCK_AT_HALF || m == SERIES_TOO_SHORT ||
+           m == TEMPERATURE_CONSTANT || m == EDGE_WEIGHT_TWICE;
 }
 
 static air_state selftest_state(size_t i, uint64_t seed, const air_state *edges, size_t count) {
@@ -22,12 +22,15 @@ static air_state selftest_state(size_t i, uint64_t seed, const air_state *edges,
     return i < count ? edges[i] : random_state(&r);
 }
 
-static void test_mistake(mistake m, uint64_t seed) {
+/* On states of one kind that shows the mistake; 0 is any unknown one. */
+static void test_mistake(mistake m, uint8_t kind, uint64_t seed) {
     size_t count, seen = 0, rejected = 0;
     const air_state *edges = edge_states(&count);
     for (size_t i = 0; i < count + RANDOM_STATES && seen < JUDGED_PER_MISTAKE; i++) {
         tally_case(mistake_name(m), i);
         air_state s = selftest_state(i, seed, edges, count);
+        if ((s.kind > 2 ? 0 : s.kind) != kind)
+            continue;
         eas_answer right = make_answer(NO_MISTAKE, s.kind, s.first, s.second);
         eas_answer wrong = make_answer(m, s.kind, s.first, s.second);
         if (answers_differ(&right, &wrong) == NULL)
@@ -38,8 +41,8 @@ static void test_mistake(mistake m, uint64_t seed) {
         if (!may_be_allowed(m) && !tally_check(rejects, "kind %u %" PRIu64 " %" PRIu64, s.kind, s.first, s.second))
             tally_answer("taken", &wrong);
     }
-    tally_check(rejected > 0 && 2 * rejected >= seen, "%zu of %zu rejected", rejected, seen);
-    printf("  %-50s %zu wrong answers, %zu rejected\n", mistake_name(m), seen, rejected);
+    tally_check(rejected > 0 && 2 * rejected >= seen, "kind %u, %zu of %zu rejected", kind, rejected, seen);
+    printf("  %-50s kind %u: %zu wrong answers, %zu rejected\n", mistake_name(m), kind, seen, rejected);
 }
 
 /* The reference must take every allowed choice, not just the nearest. */
@@ -62,11 +65,14 @@ static void must_reject(air_state s, const eas_answer *answer, const char *chang
         tally_answer("taken", answer);
 }
 
-/* Every field of a right answer changed by itself. A weight may move by 20 within its tolerance, a temperature by three
- * millionths of its logarithm, a refused entropy's logarithm by 1, so these take longer steps. */
+/* Every field of a right answer changed by itself. A weight may move by 20 within its tolerance, the temperature of a
+ * fit by three millionths of its logarithm, a refused entropy's logarithm by 1, so these take longer steps. A join's
+ * own value is fixed by its edges. */
 static void test_changed_fields(air_state s) {
     eas_answer right = make_answer(NO_MISTAKE, s.kind, s.first, s.second);
     int log_step = right.number == 12 ? 2 : 1;
+    int64_t kelvin_step = right.value / 50000 + 1;
+    bool single = right.low.fit != 0 && !(right.carries & EAS_CARRIES_HIGH);
     for (int step = -1; step <= 1; step += 2) {
         eas_answer a[12];
         for (int i = 0; i < 12; i++)
@@ -76,13 +82,13 @@ static void test_changed_fields(air_state s) {
         a[2].x += step;
         a[3].y += log_step * step;
         a[4].z += log_step * step;
-        a[5].value += right.low.fit != 0 ? step * (right.value / 50000 + 1) : step;
+        a[5].value += single ? step * kelvin_step : step;
         a[6].low.fit += step;
         a[7].low.weight += 21 * step;
-        a[8].low.value += step;
+        a[8].low.value += step * kelvin_step;
         a[9].high.fit += step;
-        a[10].high.weight += step;
-        a[11].high.value += step;
+        a[10].high.weight += 21 * step;
+        a[11].high.value += step * kelvin_step;
         static const char *const fields[] = {"number",    "letter",   "x",           "y",
                                              "z",         "value",    "low.fit",     "low.weight",
                                              "low.value", "high.fit", "high.weight", "high.value"};
@@ -105,10 +111,13 @@ static void test_swapped_fields(air_state s) {
     a.low = right.high, a.high = right.low;
     if (right.low.fit != 0)
         must_reject(s, &a, "edges swapped");
-    a = right;
-    a.low.fit = right.low.weight, a.low.weight = right.low.fit;
-    if (right.low.fit != right.low.weight)
-        must_reject(s, &a, "fit and weight swapped");
+    for (int i = 0; i < 2; i++) {
+        a = right;
+        eas_edge *edge = i == 0 ? &a.low : &a.high, kept = *edge;
+        *edge = (eas_edge){.fit = kept.weight, .weight = kept.fit, .value = kept.value};
+        if (kept.fit != kept.weight)
+            must_reject(s, &a, "fit and weight swapped");
+    }
     a = right;
     a.letter = right.letter == 'T' ? 'S' : 'T';
     must_reject(s, &a, "other letter");
@@ -156,5 +165,6 @@ void test_answers(uint64_t seed) {
     for (mistake m = NO_MISTAKE; m < FIRST_MISTAKE; m++)
         test_right_answers(m, seed);
     for (mistake m = FIRST_MISTAKE; m < MISTAKES; m++)
-        test_mistake(m, seed);
+        for (const char *kind = mistake_kinds(m); *kind != 0; kind++)
+            test_mistake(m, (uint8_t)(*kind - '0'), seed);
 }

@@ -31,6 +31,39 @@ static void test_known_values(void) {
     tally_check(hot.number == 13 && judge_answer(1, 10133000000000, 12920000000, &hot) == NULL, "third listing state");
 }
 
+/* Joined temperatures and refusals of a strip, worked out from document 01 in Python's whole numbers: a rising line, a
+ * falling one between pieces of different numbers, one without weights, 13 by each edge and by both. */
+static void test_known_joins(void) {
+    static const struct {
+        uint64_t pressure, density;
+        int64_t x, y, value;
+        eas_edge low, high;
+    } known[] = {
+        /* clang-format off */
+        {1163424065, 4180830, -1940000, -4490000, 22098838353,
+         {18909244802, 9999999926, 21248349680}, {19150738688, 10000000000, 22463333499}},
+        {837024254307, 40575372325, 917000, -503000, 5806562415,
+         {13278451391, 0, 5810937506}, {13262072411, 10000000000, 5789062054}},
+        {12756691, 4085663, -3900000, -4500000, 1084230807,
+         {5985381782, 0, 1083775190}, {5989039273, 0, 1084686425}},
+        {12786098408007, 40950811623, 2101000, -499000, 0, {20287145933, 10000000000, 0}, {16689829329, 10000000000, 0}},
+        {1398743375, 3992662, -1860000, -4510000, 0, {19385666312, 10000000000, 0}, {20001394228, 10000000000, 0}},
+        {1569415880, 3992662, -1810000, -4510000, 0, {19628953940, 10000000000, 0}, {20421596503, 10000000000, 0}},
+        /* clang-format on */
+    };
+    for (size_t i = 0; i < LENGTH(known); i++) {
+        tally_case("known joins", i);
+        eas_answer a = {.letter = 'T', .carries = 15, .x = known[i].x, .y = known[i].y, .z = known[i].x - known[i].y};
+        a.low = known[i].low;
+        a.high = known[i].high;
+        a.value = known[i].value;
+        a.number = a.value == 0 ? 13 : 0;
+        a.carries += a.value == 0 ? 0 : EAS_CARRIES_VALUE;
+        const char *wrong = judge_answer(1, known[i].pressure, known[i].density, &a);
+        tally_check(wrong == NULL, "%s", wrong);
+    }
+}
+
 /* 10^low < over^power < 10^high in whole numbers; the power is a million for a denominator of 1. */
 static bool power_between(unsigned long over, int64_t low, int64_t high) {
     mpz_t power, below, above;
@@ -129,38 +162,54 @@ static void test_weights(void) {
     tally_check(!weight_allowed(-1, 999999999999) && !weight_allowed(10000000001, -999999999999), "outside 0 to 10^10");
 }
 
-/* Demand 3's own bounds, which the stricter rules of an answer would hide. */
-static void test_claims(void) {
-    for (int64_t y = -6900000; y < 3000000; y += 330000) {
-        for (int64_t z = 260000; z < 3000000; z += 170000) {
-            tally_case("claims", (uint64_t)(z + 1000000000 * (y + 7000000)));
-            air_state s = state_near(1, y, z);
-            eas_answer a = make_answer(NO_MISTAKE, 1, s.first, s.second);
-            if (a.number != 0 || a.z <= PERFECT_LIMIT)
-                continue;
-            const temperature_piece *piece = piece_at(a.y, a.z);
-            ratio_logarithm kelvin;
-            logarithm_init(&kelvin);
-            logarithm_of(&kelvin, (uint64_t)a.value, T0);
-            tally_check(fit_claim(piece, a.y, a.z, a.low.fit, &kelvin) == NULL, "right claim");
-            tally_check(fit_claim(piece, a.y, a.z, a.low.fit + 12500, &kelvin) != NULL, "fit too high");
-            tally_check(fit_claim(piece, a.y, a.z, a.low.fit - 12500, &kelvin) != NULL, "fit too low");
-            logarithm_of(&kelvin, (uint64_t)(a.value + a.value / 100000), T0);
-            tally_check(fit_claim(piece, a.y, a.z, a.low.fit, &kelvin) != NULL, "temperature too high");
-            logarithm_of(&kelvin, (uint64_t)(a.value - a.value / 100000), T0);
-            tally_check(fit_claim(piece, a.y, a.z, a.low.fit, &kelvin) != NULL, "temperature too low");
-            logarithm_clear(&kelvin);
-            int64_t value = (int64_t)entropy_value(a.y, a.z);
-            tally_check(entropy_near_exact(value, a.y, a.z), "right entropy");
-            tally_check(!entropy_near_exact(value + 4, a.y, a.z), "entropy too high");
-            tally_check(!entropy_near_exact(value - 5, a.y, a.z), "entropy too low");
-        }
+/* Demand 3's own bounds, which the stricter rules of an answer would hide, of a fit and its temperature. */
+static void test_fit_claim(int64_t y, int64_t z, int64_t fit, int64_t value) {
+    const temperature_piece *piece = piece_at(y, z);
+    ratio_logarithm kelvin;
+    logarithm_init(&kelvin);
+    logarithm_of(&kelvin, (uint64_t)value, T0);
+    tally_check(fit_claim(piece, y, z, fit, &kelvin) == NULL, "right claim");
+    tally_check(fit_claim(piece, y, z, fit + 12500, &kelvin) != NULL, "fit too high");
+    tally_check(fit_claim(piece, y, z, fit - 12500, &kelvin) != NULL, "fit too low");
+    logarithm_of(&kelvin, (uint64_t)(value + value / 100000), T0);
+    tally_check(fit_claim(piece, y, z, fit, &kelvin) != NULL, "temperature too high");
+    logarithm_of(&kelvin, (uint64_t)(value - value / 100000), T0);
+    tally_check(fit_claim(piece, y, z, fit, &kelvin) != NULL, "temperature too low");
+    logarithm_clear(&kelvin);
+}
+
+/* A joined entropy is rounded down three times, at both edges and on the line. */
+static void test_entropy_claim(int64_t y, int64_t z, bool joined) {
+    int64_t value = (int64_t)entropy_value(y, z);
+    tally_check(entropy_near_exact(value, y, z), "right entropy");
+    tally_check(!entropy_near_exact(value + (joined ? 6 : 4), y, z), "entropy too high");
+    tally_check(!entropy_near_exact(value - 5, y, z), "entropy too low");
+}
+
+/* A column of the plane; in a strip, the claims of both edges. */
+static void test_claims(int64_t y) {
+    density_strip strip;
+    bool joined = strip_of(y, &strip);
+    for (int64_t z = 260000; z < 3000000; z += 170000) {
+        tally_case("claims", (uint64_t)(z + 1000000000 * (y + 7000000)));
+        air_state s = state_near(1, y, z);
+        eas_answer a = make_answer(NO_MISTAKE, 1, s.first, s.second);
+        if (a.number != 0)
+            continue;
+        test_fit_claim(joined ? strip.lower : a.y, a.z, a.low.fit, joined ? a.low.value : a.value);
+        if (joined)
+            test_fit_claim(strip.upper, a.z, a.high.fit, a.high.value);
+        test_entropy_claim(a.y, a.z, joined);
     }
 }
 
 void test_numbers(void) {
     test_known_values();
+    test_known_joins();
     test_logarithms();
     test_weights();
-    test_claims();
+    for (int64_t y = -6900000; y < 3000000; y += 330000)
+        test_claims(y);
+    for (int i = 0; i < STRIPS; i++)
+        test_claims((density_strips[i].lower + density_strips[i].upper) / 2);
 }

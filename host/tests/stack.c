@@ -123,7 +123,7 @@ static size_t used(void (*work)(void)) {
     return m.used;
 }
 
-/* Adds a record; the states go over all bands and pieces of both kinds. */
+/* Adds a record; the states go over all bands and pieces of both kinds, and both are joined in both strips. */
 static void add_record(sheet *s, unsigned index) {
     static const uint64_t firsts[] = {101330000000, 5000000000000, 784084000, 78408400,
                                       254529,       717361463316,  0,         1000000000000};

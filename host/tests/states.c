@@ -16,6 +16,8 @@ static const int64_t temperature_edges[] = {-1000000, 0,       250000,  650000, 
                                             1450000,  1950000, 2000000, 2500000, 3000000};
 static const int64_t entropy_edges[] = {-1000000, 0,       400000,  650000,  1000000, 2000000,
                                         3000000,  3400000, 3500000, 3690000, 4000000};
+/* Z of temperatures between the ends of pieces, for the strips. */
+static const int64_t temperature_middles[] = {600000, 1175000, 1425000, 1700000, 1975000, 2250000};
 static const uint64_t odd_values[] = {0,         1,         2,         E_MIN - 1, E_MIN,     E_MIN + 1,
                                       E0,        P0,        E_MAX - 1, E_MAX,     E_MAX + 1, P_MAX - 1,
                                       P_MAX,     P_MAX + 1, D_MIN,     D_MAX,     INT64_MAX, INT64_MAX + UINT64_C(1),
@@ -34,6 +36,21 @@ air_state state_near(uint8_t kind, int64_t y, int64_t z) {
     air_state s = {.kind = kind, .second = scaled(D0, y)};
     s.first = kind == 1 ? scaled(P0, y + z) : scaled(E0, z);
     return s;
+}
+
+int64_t fit_near(int64_t y, int64_t z) {
+    const temperature_piece *piece = piece_at(y, z);
+    long double q = (long double)exponent(piece->exponent, y, z) / 1.0e10L;
+    return (int64_t)fitted(piece, y, z, llrintl(1.0e10L / (1.0L + expl(q))));
+}
+
+int pair_ends(const density_strip *strip, int64_t ends[MOST_PAIRS]) {
+    int count = 0;
+    for (int64_t z = PERFECT_LIMIT; z < HIGHEST_Z; ends[count++] = z) {
+        int64_t lower = piece_at(strip->lower, z + 1)->upper, upper = piece_at(strip->upper, z + 1)->upper;
+        z = lower < upper ? lower : upper;
+    }
+    return count;
 }
 
 static air_state *list;
@@ -75,53 +92,68 @@ static void add_plane_edges(void) {
     }
 }
 
-/* Where an exponent passes zero, for densities over the whole range. */
-static void add_transitions(void) {
-    for (int64_t y = -7000000; y <= 3000000; y += 125000) {
-        for (int64_t start = 950001; start <= 3000000; start += 50000) {
-            const temperature_piece *piece = piece_at(y, start);
-            long double c1 = piece->exponent[0], c2 = piece->exponent[1], c3 = piece->exponent[2],
-                        c4 = piece->exponent[3];
-            long double ry = (long double)y / 1000000.0L;
-            long double z = -(c1 + c2 * ry) / (c3 + c4 * ry) * 1000000.0L;
-            if (piece->weighed && fabsl(z - (long double)start) < 25000.0L)
-                add_around(1, y, (int64_t)z);
-        }
+/* Where an exponent at one Y passes zero, the states at another. */
+static void add_transitions(int64_t edge, int64_t y) {
+    for (int64_t start = 950001; start <= 3000000; start += 50000) {
+        const temperature_piece *piece = piece_at(edge, start);
+        long double c1 = piece->exponent[0], c2 = piece->exponent[1], c3 = piece->exponent[2], c4 = piece->exponent[3];
+        long double at = (long double)edge / 1000000.0L;
+        long double z = -(c1 + c2 * at) / (c3 + c4 * at) * 1000000.0L;
+        if (piece->weighed && fabsl(z - (long double)start) < 25000.0L)
+            add_around(1, y, (int64_t)z);
     }
 }
 
-/* G by the nearest weight. */
-static int64_t fit_near(int64_t y, int64_t z) {
-    const temperature_piece *piece = piece_at(y, z);
-    long double q = (long double)exponent(piece->exponent, y, z) / 1.0e10L;
-    return (int64_t)fitted(piece, y, z, llrintl(1.0e10L / (1.0L + expl(q))));
+/* Where G at one Y passes its upper limit (it comes nowhere near the lower one), the states at another. */
+static void add_fit_limits(int64_t edge, int64_t y) {
+    const int64_t limit = HIGHEST_FIT, stride = 20000;
+    for (int64_t z = 2000000; z < HIGHEST_Z; z += stride) {
+        int64_t low = z, high = z + stride;
+        bool starts_within = fit_near(edge, low) <= limit;
+        if ((fit_near(edge, high) <= limit) == starts_within)
+            continue;
+        while (high - low > 1) {
+            int64_t middle = (low + high) / 2;
+            if ((fit_near(edge, middle) <= limit) == starts_within)
+                low = middle;
+            else
+                high = middle;
+        }
+        add_around(1, y, low);
+    }
 }
 
-/* Where G passes its upper limit (it comes nowhere near the lower one), then points where G is the upper limit itself
- * or one unit more. */
-static void add_fit_limits(void) {
+/* Points where G is the upper limit itself or one unit more. */
+static void add_exact_limits(void) {
     static const int64_t points[][2] = {{-2919599, 2589131}, {-2856625, 2588004}, {-1869428, 2563264},
                                         {-1185631, 2536620}, {-2903467, 2588847}, {-1713843, 2557991},
                                         {-577462, 2503565},  {1139227, 2454118}};
-    const int64_t limit = HIGHEST_FIT, stride = 20000;
-    for (int64_t y = -7000000; y <= 3000000; y += 250000) {
-        for (int64_t z = 2000000; z < HIGHEST_Z; z += stride) {
-            int64_t low = z, high = z + stride;
-            bool starts_within = fit_near(y, low) <= limit;
-            if ((fit_near(y, high) <= limit) == starts_within)
-                continue;
-            while (high - low > 1) {
-                int64_t middle = (low + high) / 2;
-                if ((fit_near(y, middle) <= limit) == starts_within)
-                    low = middle;
-                else
-                    high = middle;
-            }
-            add_around(1, y, low);
-        }
-    }
     for (size_t i = 0; i < LENGTH(points); i++)
         add_around(1, points[i][0], points[i][1]);
+}
+
+/* Temperatures on, beside and between the edges of a strip: in every piece of either edge, and where the transition or
+ * the limit of an edge's own fit lies. */
+static void add_strip(density_strip strip) {
+    const int64_t middle = (strip.lower + strip.upper) / 2, edges[] = {strip.lower, strip.upper};
+    const int64_t ys[] = {strip.lower, strip.lower + 1, middle, strip.upper - 1, strip.upper};
+    for (size_t i = 0; i < LENGTH(ys); i++) {
+        for (size_t j = 0; j < LENGTH(temperature_middles); j++)
+            add_around(1, ys[i], temperature_middles[j]);
+        for (size_t j = 0; j < LENGTH(edges); j++) {
+            add_transitions(edges[j], ys[i]);
+            add_fit_limits(edges[j], ys[i]);
+        }
+    }
+}
+
+/* Strips, and a point in the wider one and one outside the narrower one where temperatures rise steeply: there a line
+ * between exponents, or the other strip's width, leads far away. */
+static void add_strips(void) {
+    for (int i = 0; i < STRIPS; i++)
+        add_strip(density_strips[i]);
+    add_around(1, -4490000, 2550000);
+    add_around(1, -510000, 2450000);
 }
 
 /* Every kind with standard values; every pair of values at and beyond the ranges' ends, for known and unknown kinds. */
@@ -137,8 +169,12 @@ static void add_odd_values(void) {
 const air_state *edge_states(size_t *count) {
     if (used == 0) {
         add_plane_edges();
-        add_transitions();
-        add_fit_limits();
+        add_strips();
+        for (int64_t y = -7000000; y <= 3000000; y += 125000)
+            add_transitions(y, y);
+        for (int64_t y = -7000000; y <= 3000000; y += 250000)
+            add_fit_limits(y, y);
+        add_exact_limits();
         add_odd_values();
     }
     *count = used;
@@ -163,10 +199,14 @@ static air_state state_near_edge(random_source *r, uint8_t kind) {
     return state_near(kind, y + random_between(r, -20, 20), z + random_between(r, -20, 20));
 }
 
-/* Inside a strip, or next to its ends. */
+/* Inside a strip, or next to its ends; each value up to a millionth of its logarithm higher. */
 static air_state state_in_strip(random_source *r, uint8_t kind) {
-    int64_t y = random_below(r, 2) ? random_between(r, -4525003, -4474997) : random_between(r, -505003, -494997);
-    return state_near(kind, y, random_between(r, -999000, 3700000));
+    const density_strip *strip = &density_strips[random_below(r, STRIPS)];
+    int64_t y = random_between(r, strip->lower - 3, strip->upper + 3);
+    air_state s = state_near(kind, y, random_between(r, -999000, 3700000));
+    s.first += random_below(r, s.first / 430000 + 1);
+    s.second += random_below(r, s.second / 430000 + 1);
+    return s;
 }
 
 /* Log-uniform over a range that is a little wider than the allowed one. */

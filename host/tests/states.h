@@ -6,6 +6,7 @@
 #include <stdint.h>
 
 #include "random.h"
+#include "reference/fit.h"
 
 typedef struct {
     uint8_t kind;
@@ -14,6 +15,13 @@ typedef struct {
 
 /* The state whose logarithms are next to these millionths, whether in range or not. */
 air_state state_near(uint8_t kind, int64_t y, int64_t z);
+
+/* G at a point by the nearest weight, in units of 10^-10. */
+int64_t fit_near(int64_t y, int64_t z);
+
+/* The last Z of each pair of pieces that a Z gives at the edges of a strip, rising; returns their number. */
+enum { MOST_PAIRS = 2 * PIECES };
+int pair_ends(const density_strip *strip, int64_t ends[MOST_PAIRS]);
 
 /* Every edge with its neighbours; the list lives as long as the program. */
 const air_state *edge_states(size_t *count);

@@ -6,10 +6,14 @@ cd "$(dirname "$0")/.." || exit 1
 build=$1
 shift
 
+# prints_example STORED SHEET NAME...
 prints_example() {
-    "$build/example" samples/sample.eas nose%2fcap%201 42 hot 43 a%2 > "$work/example.txt"
+    stored=tests/expected/$1
+    sheet=samples/$2
+    shift 2
+    "$build/example" "$sheet" "$@" > "$work/example.txt"
     cat "$work/example.txt"
-    cmp "$work/example.txt" tests/expected/example.txt
+    cmp "$work/example.txt" "$stored"
 }
 
 # The listing program reads sheet.eas in the current folder.
@@ -52,7 +56,9 @@ refuses_list() {
     test "$(cat "$work/listed")" = "list ! 15"
 }
 
-expect "the example prints what is stored" prints_example
+expect "the example prints what is stored" prints_example example.txt sample.eas nose%2fcap%201 42 hot 43 a%2
+expect "the example prints joined temperatures" prints_example example-joined.txt slash-and-space.eas \
+    strip%2fT%20low%201 strip%2Fcold%20low refused%2FG%20at%20dense%20end
 expect "no entry uses 128 KB of stack" "$build/stack"
 expect "the benchmark runs" "$build/bench" 1000
 if test $# -gt 0; then

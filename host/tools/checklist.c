@@ -32,12 +32,16 @@ static const char *const titles[TALLIES] = {
 static const char *const place_words[PLACES] = {
     [A_SIGN] = "a name with a slash, a space or another sign that is written as % and two digits",
     [A_NUMBER] = "a name of digits only that is not the number of its row",
-    [ON_LOWER_EDGE] = "a hot state on the lower density edge (such as 12.756691 Pa, 0.00004085663 kg/m³)",
-    [ABOVE_LOWER_EDGE] =
-        "a hot state beside the lower density edge, a little denser (such as 13.053833 Pa, 0.0000418083 kg/m³)",
-    [ON_UPPER_EDGE] = "a hot state on the upper density edge (such as 127566.911977 Pa, 0.40856627369 kg/m³)",
-    [ABOVE_UPPER_EDGE] =
-        "a hot state beside the upper density edge, a little denser (such as 130538.327073 Pa, 0.41808300475 kg/m³)",
+    [BELOW_LOWER_STRIP] = "a hot state beside the strip at the lower density edge, a little thinner "
+                          "(such as 18.868529 Pa, 0.00003812962 kg/m³)",
+    [IN_LOWER_STRIP] = "a hot state on the lower density edge (such as 20.217993 Pa, 0.00004085663 kg/m³)",
+    [ABOVE_LOWER_STRIP] = "a hot state beside the strip at the lower density edge, a little denser "
+                          "(such as 21.66397 Pa, 0.00004377866 kg/m³)",
+    [BELOW_UPPER_STRIP] = "a hot state beside the strip at the upper density edge, a little thinner "
+                          "(such as 197577.753293 Pa, 0.39926616988 kg/m³)",
+    [IN_UPPER_STRIP] = "a hot state on the upper density edge (such as 202179.930376 Pa, 0.40856627369 kg/m³)",
+    [ABOVE_UPPER_STRIP] = "a hot state beside the strip at the upper density edge, a little denser "
+                          "(such as 206889.305933 Pa, 0.41808300475 kg/m³)",
     [BEFORE_MIDDLE] = "a hot state in a transition, before its middle (such as 4347.484504 Pa, 0.00408566274 kg/m³)",
     [BEHIND_MIDDLE] = "a hot state in a transition, behind its middle (such as 4553.42348 Pa, 0.00408566274 kg/m³)",
     [OUT_OF_REACH] =
@@ -52,6 +56,7 @@ static const char *const cause_words[] = {
     [ANOTHERS] = "wrong",
     [UNDUE_VALUE] = "wrong: a value means nothing here",
     [NEIGHBOURS] = "wrong: by the curve of the neighbouring density range",
+    [NOT_JOINED] = "wrong: by the curve of one density range, not joined between two",
     [SIGN_LOST] = "wrong: the two curves of the transition are weighed the wrong way round",
     [OTHERWISE] = "wrong",
 };

@@ -8,15 +8,13 @@
 #include "kinds.h"
 #include "reference/answer.h"
 
-/* How far above an edge a state is beside it, in millionths. */
-enum { BESIDE_EDGE = 10000 };
-
 #define BIT(number) (1u << (number))
 
 const unsigned check_places[TALLIES] = {
     [SIGNS] = BIT(A_SIGN),
     [DIGITS] = BIT(A_NUMBER),
-    [EDGES] = BIT(ON_LOWER_EDGE) | BIT(ABOVE_LOWER_EDGE) | BIT(ON_UPPER_EDGE) | BIT(ABOVE_UPPER_EDGE),
+    [EDGES] = BIT(BELOW_LOWER_STRIP) | BIT(IN_LOWER_STRIP) | BIT(ABOVE_LOWER_STRIP) | BIT(BELOW_UPPER_STRIP) |
+              BIT(IN_UPPER_STRIP) | BIT(ABOVE_UPPER_STRIP),
     [TRANSITION] = BIT(BEFORE_MIDDLE) | BIT(BEHIND_MIDDLE),
     [RANGE] = BIT(OUT_OF_REACH) | BIT(TOO_HOT),
 };
@@ -101,6 +99,16 @@ static bool is_wrong_value(double value, double wrong, const right_state *right)
     return right->fitted && same_value(value, wrong) && !same_value(wrong, right->value);
 }
 
+static cause cause_by_value(double value, const right_state *right) {
+    for (int i = 0; i < RANGES; i++)
+        if (is_wrong_value(value, right->one_range[i], right))
+            return right->joined ? NOT_JOINED : NEIGHBOURS;
+    for (int i = 0; i < LOST_SIGNS; i++)
+        if (is_wrong_value(value, right->sign_lost[i], right))
+            return SIGN_LOST;
+    return OTHERWISE;
+}
+
 static cause cause_of(const asked_sheet *sheet, const asked_name *name, way w) {
     const named_state *state = &sheet->states[name->state];
     const right_state *right = &state->right;
@@ -115,10 +123,7 @@ static cause cause_of(const asked_sheet *sheet, const asked_name *name, way w) {
         return ANOTHERS;
     if (s.number || right->number)
         return s.number ? OTHERWISE : UNDUE_VALUE;
-    double value = in_units(&state->record, s.value);
-    if (is_wrong_value(value, right->neighbour, right))
-        return NEIGHBOURS;
-    return is_wrong_value(value, right->sign_lost, right) ? SIGN_LOST : OTHERWISE;
+    return cause_by_value(in_units(&state->record, s.value), right);
 }
 
 /* ---- which check it is for */
@@ -138,17 +143,28 @@ static unsigned places_by_name(const asked_sheet *sheet, const named_state *s) {
     return number != row && number != row + 1 ? BIT(A_NUMBER) : 0;
 }
 
-/* A state where the wrong curve has the right value cannot tell. */
+/* A state where a wrong curve has the right value cannot tell: beside a strip that of the neighbouring range, in it
+ * that of either range. */
+static unsigned place_at_edge(const right_state *right) {
+    int wrong = 0;
+    for (int i = 0; i < RANGES; i++)
+        wrong += !same_value(right->one_range[i], right->value);
+    if (!right->fitted || !right->edge || wrong < (right->joined ? RANGES : 1))
+        return 0;
+    return BIT((right->edge == LOWER_DENSITY_EDGE ? BELOW_LOWER_STRIP : BELOW_UPPER_STRIP) + (int)right->side);
+}
+
+static unsigned place_in_transition(const right_state *right) {
+    if (!right->blended || right->joined || right->weight < 0.01 || right->weight > 0.99 ||
+        same_value(right->sign_lost[0], right->value))
+        return 0;
+    return BIT(right->weight < 0.5 ? BEFORE_MIDDLE : BEHIND_MIDDLE);
+}
+
 static unsigned places_by_value(const right_state *right) {
-    unsigned places = 0;
-    int above = right->above == 0 ? 0 : right->above > 1 && right->above <= BESIDE_EDGE ? 1 : -1;
     if (right->number)
         return right->number == 12 ? BIT(OUT_OF_REACH) : right->number == 13 ? BIT(TOO_HOT) : 0;
-    if (right->fitted && right->edge && above >= 0 && !same_value(right->neighbour, right->value))
-        places |= BIT((right->edge == LOWER_DENSITY_EDGE ? ON_LOWER_EDGE : ON_UPPER_EDGE) + above);
-    if (right->blended && right->weight >= 0.01 && right->weight <= 0.99 && !same_value(right->sign_lost, right->value))
-        places |= BIT(right->weight < 0.5 ? BEFORE_MIDDLE : BEHIND_MIDDLE);
-    return places;
+    return place_at_edge(right) | place_in_transition(right);
 }
 
 /* A fault that a check names goes to that check alone, any other to all that look at the state. */
@@ -158,7 +174,7 @@ static unsigned charged_checks(const asked_name *name, unsigned looking, cause c
         return BIT(name->as == ROW_NUMBER ? DIGITS : SIGNS);
     if (c == NOT_FOUND || c == ANOTHERS)
         return by_name ? by_name : BIT(OTHERS);
-    if (c == NEIGHBOURS && by_value & BIT(EDGES))
+    if ((c == NEIGHBOURS || c == NOT_JOINED) && by_value & BIT(EDGES))
         return BIT(EDGES);
     if (c == SIGN_LOST && by_value & BIT(TRANSITION))
         return BIT(TRANSITION);

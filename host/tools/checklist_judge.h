@@ -11,10 +11,12 @@ enum { SIGNS, DIGITS, EDGES, TRANSITION, RANGE, CHECKS, OTHERS = CHECKS, TALLIES
 enum {
     A_SIGN,
     A_NUMBER,
-    ON_LOWER_EDGE,
-    ABOVE_LOWER_EDGE,
-    ON_UPPER_EDGE,
-    ABOVE_UPPER_EDGE,
+    BELOW_LOWER_STRIP, /* those of a strip stand in the order of strip_side */
+    IN_LOWER_STRIP,
+    ABOVE_LOWER_STRIP,
+    BELOW_UPPER_STRIP,
+    IN_UPPER_STRIP,
+    ABOVE_UPPER_STRIP,
     BEFORE_MIDDLE,
     BEHIND_MIDDLE,
     OUT_OF_REACH,
@@ -32,6 +34,7 @@ typedef enum {
     ANOTHERS,     /* another state's answer */
     UNDUE_VALUE,  /* a value where a refusal is due */
     NEIGHBOURS,   /* by the curves of the neighbouring density band */
+    NOT_JOINED,   /* by the curves of one band in a strip */
     SIGN_LOST,    /* with the sign of the weight's exponent lost */
     OTHERWISE
 } cause;

@@ -1,14 +1,15 @@
 #include "checklist_right.h"
 
 #include <math.h>
+#include <stddef.h>
 
 #include "reference/answer.h"
 #include "reference/entropy.h"
 
 static const int64_t ONE = 10000000000;
 
-/* How far from an edge a state is near it, in millionths: beyond the strips in which entropies are joined. */
-enum { NEAR_EDGE = 30000 };
+/* How far from a strip a state is beside it, in millionths. */
+enum { BESIDE = 10000 };
 
 static int64_t logarithm(uint64_t over, uint64_t under) {
     return llroundl(1e6L * log10l((long double)over / (long double)under));
@@ -18,6 +19,16 @@ bool same_value(double a, double b) {
     return fabs(a - b) <= 1e-5 * fabs(b);
 }
 
+static double kelvin(wide fit) {
+    return (double)T0 / 1e6 * pow(10, (double)fit / (double)ONE);
+}
+
+/* A fit at a place; beyond: outside the fitted range. */
+typedef struct {
+    bool blended, beyond;
+    double weight, value, sign_lost;
+} place_fit;
+
 static int64_t weight_at(const temperature_piece *piece, int64_t y, int64_t z) {
     if (!piece->weighed)
         return 0;
@@ -25,41 +36,60 @@ static int64_t weight_at(const temperature_piece *piece, int64_t y, int64_t z) {
     return llrintl((long double)ONE / (1.0L + expl(q)));
 }
 
-static double kelvin(wide fit) {
-    return (double)T0 / 1e6 * pow(10, (double)fit / (double)ONE);
-}
-
-/* Finds the edge between the bands to both sides of y; it belongs to the band below it. */
-static void find_edge(right_state *r, int64_t y) {
-    int64_t below = y - NEAR_EDGE, above = y + NEAR_EDGE;
-    if (r->number || band_of(below) == band_of(above))
-        return;
-    while (above - below > 1) {
-        int64_t middle = below + (above - below) / 2;
-        *(band_of(middle) == band_of(below) ? &below : &above) = middle;
-    }
-    r->edge = band_of(below) == LOW_BAND ? LOWER_DENSITY_EDGE : UPPER_DENSITY_EDGE;
-    r->above = y - below;
-}
-
-static double kelvin_across(int64_t y, int64_t z, int64_t above) {
-    const temperature_piece *piece = piece_at(above > 0 ? y - above : y - above + 1, z);
-    return kelvin(fitted(piece, y, z, weight_at(piece, y, z)));
-}
-
-static void right_fit(right_state *r, int64_t y, int64_t z) {
-    const temperature_piece *piece = piece_at(y, z);
+static place_fit fit_by(const temperature_piece *piece, int64_t y, int64_t z) {
     int64_t weight = weight_at(piece, y, z);
     wide fit = fitted(piece, y, z, weight);
+    return (place_fit){
+        .blended = piece->weighed,
+        .beyond = fit < 0 || fit > HIGHEST_FIT,
+        .weight = (double)weight / (double)ONE,
+        .value = kelvin(fit),
+        .sign_lost = kelvin(piece->weighed ? fitted(piece, y, z, ONE - weight) : fit),
+    };
+}
+
+/* The strip that a place is in or beside; null where it is far from both. */
+static const density_strip *strip_near(int64_t y) {
+    for (int i = 0; i < STRIPS; i++)
+        if (density_strips[i].lower - BESIDE <= y && y <= density_strips[i].upper + BESIDE)
+            return &density_strips[i];
+    return NULL;
+}
+
+static void find_edge(right_state *r, int64_t y) {
+    const density_strip *strip = strip_near(y);
+    if (r->number || !strip)
+        return;
+    r->edge = strip == density_strips ? LOWER_DENSITY_EDGE : UPPER_DENSITY_EDGE;
+    r->side = y <= strip->lower ? THINNER : y < strip->upper ? INSIDE : DENSER;
+}
+
+/* A join goes straight between the edges of its strip; without one, both ends are the place itself. */
+static void right_fit(right_state *r, int64_t y, int64_t z) {
+    density_strip strip = {y, y};
     r->fitted = true;
-    r->blended = piece->weighed;
-    r->weight = (double)weight / (double)ONE;
-    if (fit < 0 || fit > HIGHEST_FIT) {
+    r->joined = strip_of(y, &strip);
+    place_fit low = fit_by(piece_at(strip.lower, z), strip.lower, z);
+    place_fit high = fit_by(piece_at(strip.upper, z), strip.upper, z);
+    double part = r->joined ? (double)(y - strip.lower) / (double)(strip.upper - strip.lower) : 0;
+    r->blended = low.blended || high.blended;
+    r->weight = low.weight;
+    if (low.beyond || high.beyond) {
         r->number = 13;
         return;
     }
-    r->value = kelvin(fit);
-    r->sign_lost = piece->weighed ? kelvin(fitted(piece, y, z, ONE - weight)) : r->value;
+    r->value = low.value + part * (high.value - low.value);
+    for (int i = 0; i < LOST_SIGNS; i++) {
+        double from = i == 1 ? low.value : low.sign_lost, to = i == 0 ? high.value : high.sign_lost;
+        r->sign_lost[i] = from + part * (to - from);
+    }
+}
+
+/* By the curves of the range below the edge and of that above it, at the state's own density. */
+static void fit_one_range(right_state *r, int64_t y, int64_t z) {
+    const density_strip *strip = strip_near(y);
+    r->one_range[0] = fit_by(piece_at(strip->lower, z), y, z).value;
+    r->one_range[1] = fit_by(piece_at(strip->upper, z), y, z).value;
 }
 
 static right_state right_temperature(uint64_t pressure, uint64_t density) {
@@ -72,7 +102,8 @@ static right_state right_temperature(uint64_t pressure, uint64_t density) {
     else
         r.value = (double)pressure * 1e7 / (28706.0 * (double)density);
     find_edge(&r, y);
-    r.neighbour = r.fitted && r.edge ? kelvin_across(y, z, r.above) : r.value;
+    if (r.fitted && r.edge)
+        fit_one_range(&r, y, z);
     return r;
 }
 

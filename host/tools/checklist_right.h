@@ -9,16 +9,24 @@
 
 typedef enum { NO_EDGE, LOWER_DENSITY_EDGE, UPPER_DENSITY_EDGE } density_edge;
 
+/* Of the strip around a density edge. */
+typedef enum { THINNER, INSIDE, DENSER } strip_side;
+
+/* The density ranges below and above an edge; the ways in which a sign is lost: at the thinner end of a join, at the
+ * denser one, at both. Outside of a join the first and the last are the same, and the second is right. */
+enum { RANGES = 2, LOST_SIGNS = 3 };
+
 typedef struct {
     uint32_t number;   /* 0, or the refusal that is due */
     double value;      /* kelvin or J/(kg K); 0 for a refusal */
-    density_edge edge; /* the density edge near by, of a state that is not refused */
-    int64_t above;     /* how far above that edge: logarithm of the density ratio in millionths */
-    bool fitted;       /* a temperature that is not a perfect gas's */
-    bool blended;      /* its fit passes from one curve to a second one */
-    double weight;     /* of the second curve, 0 to 1 */
-    double neighbour;  /* near an edge, the wrong temperature by the curves of the band across it */
-    double sign_lost;  /* the wrong temperature with the sign of the weight's exponent lost */
+    density_edge edge; /* the density edge whose strip the state is in or beside, if it is not refused */
+    strip_side side;
+    bool fitted;                  /* a temperature that is not a perfect gas's */
+    bool joined;                  /* a fitted one inside a strip */
+    bool blended;                 /* its fit, or one of both, passes from one curve to a second one */
+    double weight;                /* of the second curve, 0 to 1; in a join that at the thinner end */
+    double one_range[RANGES];     /* near an edge, the temperature by the curves of one density range alone */
+    double sign_lost[LOST_SIGNS]; /* the wrong temperature with the sign of the weight's exponent lost */
 } right_state;
 
 right_state right_of(const eas_record *record);

@@ -12,6 +12,13 @@
 
 static uint8_t sheet[EAS_SHEET_ROOM + 1]; /* one byte more than the largest sheet, so that a longer file is refused */
 
+static void print_fit(const char *which, eas_edge e) {
+    printf("  %s: G %.6f, W %.6f", which, (double)e.fit / 1e10, (double)e.weight / 1e10);
+    if (e.value)
+        printf(", temperature %.6f K", (double)e.value / 1e6);
+    printf("\n");
+}
+
 static void print_search(eas_answer a) {
     if (a.number)
         printf("  search: refusal %u: %s\n", a.number, eas_reason(a.number));
@@ -21,8 +28,10 @@ static void print_search(eas_answer a) {
         printf("  search: entropy %.4f J/(kg K)\n", (double)a.value / 1e4);
     if (a.carries & EAS_CARRIES_LOGS)
         printf("  logarithms: Y %.6f, Z %.6f\n", (double)a.y / 1e6, (double)a.z / 1e6);
-    if (a.letter == 'T' && a.carries & EAS_CARRIES_LOW)
-        printf("  fit: G %.6f, W %.6f\n", (double)a.low.fit / 1e10, (double)a.low.weight / 1e10);
+    if (a.carries & EAS_CARRIES_LOW)
+        print_fit(a.carries & EAS_CARRIES_HIGH ? "fit at the low edge" : "fit", a.low);
+    if (a.carries & EAS_CARRIES_HIGH)
+        print_fit("fit at the high edge", a.high);
 }
 
 static void print_mark(eas_mark mark) {

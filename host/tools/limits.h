@@ -27,7 +27,8 @@
 
 enum { LEAST_Y = -7000000, MOST_Y = 3000000 };
 
-/* Density bands; an edge belongs to the lower one. Entropy is joined strictly inside a strip around each edge. */
+/* Density bands; an edge belongs to the lower one. Strictly inside a strip around each edge entropy is joined, and
+ * temperature where its Z is above PERFECT_Z. */
 enum { LOW, MIDDLE, HIGH };
 enum { LOWER_EDGE = -4500000, UPPER_EDGE = -500000, LOWER_HALF = 25000, UPPER_HALF = 5000 };
 

@@ -51,7 +51,7 @@ static void gather(chart *c, const uint8_t *sheet, size_t n) {
         it->mark = eas_plot(sheet, n, (const uint8_t *)it->s.spelled, it->s.spelled_length);
         eas_answer a = search_state(sheet, n, &it->s);
         it->fitted = a.letter == 'S' || a.carries & EAS_CARRIES_LOW;
-        it->joined = a.letter == 'S' && inside_strip(a.y, &middle, &half);
+        it->joined = a.letter == 'S' ? inside_strip(a.y, &middle, &half) : a.carries & EAS_CARRIES_HIGH;
         c->blanks += it->mark.blank != 0;
     }
 }
@@ -81,19 +81,33 @@ static double legend(figure *f, double y, const item *shape, colour ink, const c
     return y + 16;
 }
 
-static void draw_legend(figure *f, const chart *c, double y) {
-    static const item perfect = {.fitted = false}, fitted = {.fitted = true}, joined = {.joined = true};
-    char text[64];
-    for (unsigned i = 0; i < c->panel_count; i++) {
-        const panel *p = &c->panels[i];
-        bool entropy = p->kind->letter == 'S';
-        snprintf(text, sizeof text, "temperature, perfect gas (Z up to %g)", MILLIONTHS(PERFECT_Z));
-        if (!entropy)
-            y = legend(f, y, &perfect, p->ink, text);
-        y = legend(f, y, &fitted, p->ink, entropy ? "entropy, one band" : "temperature, fitted");
-        if (entropy)
-            y = legend(f, y, &joined, p->ink, "entropy, joined between two bands (shaded strips)");
+/* Whether a panel has a mark of this shape. */
+static bool has_shape(const chart *c, const panel *p, const item *shape) {
+    for (unsigned i = 0; i < c->count; i++) {
+        const item *it = &c->items[i];
+        if (is_point_of(it, p->kind) && it->fitted == shape->fitted && it->joined == shape->joined)
+            return true;
     }
+    return false;
+}
+
+/* The shapes of a panel's marks; returns the next line's height. */
+static double draw_shapes(figure *f, const chart *c, const panel *p, double y) {
+    static const item shapes[] = {{.fitted = false}, {.fitted = true}, {.fitted = true, .joined = true}};
+    char perfect[32], text[96];
+    snprintf(perfect, sizeof perfect, "perfect gas (Z up to %g)", MILLIONTHS(PERFECT_Z));
+    const char *const words[] = {perfect, "one band", "joined between two bands (shaded strips)"};
+    for (int i = 0; i < 3; i++) {
+        snprintf(text, sizeof text, "%s, %s", p->kind->wanted->name, words[i]);
+        if (has_shape(c, p, &shapes[i]))
+            y = legend(f, y, &shapes[i], p->ink, text);
+    }
+    return y;
+}
+
+static void draw_legend(figure *f, const chart *c, double y) {
+    for (unsigned i = 0; i < c->panel_count; i++)
+        y = draw_shapes(f, c, &c->panels[i], y);
     draw_line(f, LIST_LEFT - 2, y - 4, LIST_LEFT + 18, y - 4, (pen){grey, 1, true});
     y = legend(f, y, NULL, grey, "end of a fitted piece, or a limit, in Z, which is");
     legend(f, y, NULL, grey, "log10 of p/p₀ over ρ/ρ₀, for entropy of e/e₀");

@@ -10,6 +10,9 @@ enum { CURVE_STEPS = 240, RULER_HEIGHT = 14 };
 /* A strip is drawn at least this wide, so that it is seen. */
 static const double STRIP_LEAST = 8;
 
+/* A curve is followed this far below its Z, where the piece that ends there still holds. */
+static const double BELOW = 1e-7;
+
 static const colour strip_ink = {0.72, 0.83, 0.97}, edge_ink = {0.45, 0.45, 0.45}, curve_ink = {0.62, 0.62, 0.62};
 
 static const double band_end[] = {MILLIONTHS(LEAST_Y), MILLIONTHS(LOWER_EDGE), MILLIONTHS(UPPER_EDGE),
@@ -39,7 +42,7 @@ static void fit_up(const chart *c, panel *p) {
         a.low /= 1.25;
         a.high *= 1.25;
     } else {
-        widen(&a, 0.2 * fabs(a.high), 0.08);
+        widen(&a, 0.02 * fabs(a.high), 0.08);
     }
     p->up = a;
 }
@@ -150,28 +153,6 @@ static bool is_visible(const chart *c, double across) {
     return across > c->across.low && across < c->across.high;
 }
 
-/* A strip around the upper end of a band, at least STRIP_LEAST wide. */
-static void draw_strip(figure *f, const chart *c, const panel *p, int band) {
-    double middle = band_end[band + 1], half = strip_half[band + 1];
-    double least = STRIP_LEAST / 2 * (c->across.high - c->across.low) / (RIGHT - LEFT);
-    box b = between(c, p, middle - fmax(half, least), middle + fmax(half, least));
-    fill_box(f, b.x, b.y, b.w, b.h, strip_ink);
-}
-
-static void draw_bands(figure *f, const chart *c, const panel *p) {
-    for (int band = 0; band < 3; band++) {
-        box b = between(c, p, band_end[band], band_end[band + 1]);
-        if (b.w > text_width(band_name[band], 11, false))
-            f->text(f, (point){b.x + b.w / 2, p->top - 6}, (lettering){11, grey, 0.5, false, false}, band_name[band]);
-        if (band == 2 || !is_visible(c, band_end[band + 1]))
-            continue;
-        if (p->kind->letter == 'S')
-            draw_strip(f, c, p, band);
-        double x = page_x(c, band_end[band + 1]);
-        draw_line(f, x, p->top, x, p->bottom, (pen){edge_ink, 1, false});
-    }
-}
-
 /* The library's value at (y, z) in its SI unit, or 0 where it is refused. */
 static double value_at(const panel *p, double y, double z) {
     double standard =
@@ -179,6 +160,36 @@ static double value_at(const panel *p, double y, double z) {
     eas_answer a = eas_evaluate(p->kind->kind, (uint64_t)llround(standard),
                                 (uint64_t)llround((double)STANDARD_DENSITY * pow(10, y)));
     return a.number ? 0 : (double)a.value * pow(10, -(double)p->kind->wanted->decimals);
+}
+
+/* A strip around the upper end of a band, at least STRIP_LEAST wide. Temperatures are joined above the end of the
+ * perfect gas, so that theirs ends there. */
+static void draw_strip(figure *f, const chart *c, const panel *p, int band) {
+    double middle = band_end[band + 1], half = strip_half[band + 1];
+    double least = STRIP_LEAST / 2 * (c->across.high - c->across.low) / (RIGHT - LEFT);
+    box b = between(c, p, middle - fmax(half, least), middle + fmax(half, least));
+    if (p->kind->letter == 'T')
+        b.h = fmin(fmax(page_y(p, value_at(p, middle, MILLIONTHS(PERFECT_Z) - BELOW)) - p->top, 0), b.h);
+    if (b.h > 0)
+        fill_box(f, b.x, b.y, b.w, b.h, strip_ink);
+}
+
+static void draw_bands(figure *f, const chart *c, const panel *p) {
+    for (int band = 0; band < 3; band++) {
+        box b = between(c, p, band_end[band], band_end[band + 1]);
+        if (b.w > text_width(band_name[band], 11, false))
+            f->text(f, (point){b.x + b.w / 2, p->top - 6}, (lettering){11, grey, 0.5, false, false}, band_name[band]);
+        if (band < 2 && is_visible(c, band_end[band + 1]))
+            draw_strip(f, c, p, band);
+    }
+}
+
+static void draw_edges(figure *f, const chart *c, const panel *p) {
+    for (int band = 0; band < 2; band++) {
+        double x = page_x(c, band_end[band + 1]);
+        if (is_visible(c, band_end[band + 1]))
+            draw_line(f, x, p->top, x, p->bottom, (pen){edge_ink, 1, false});
+    }
 }
 
 /* A run of points of a curve on which Z is constant. */
@@ -209,15 +220,15 @@ static void label_run(figure *f, const panel *p, const point *points, size_t n, 
     }
 }
 
-/* A curve of constant Z over a band, a little below the limit, where the piece still holds. */
+/* A curve of constant Z over a band, without the strips where values of this Z are joined. */
 static void follow_curve(figure *f, const chart *c, const panel *p, int band, double z, use_run *use) {
-    bool joined = p->kind->letter == 'S';
+    bool joined = p->kind->letter == 'S' || z > MILLIONTHS(PERFECT_Z);
     double from = fmax(c->across.low, band_end[band] + (joined ? strip_half[band] + 1e-6 : 1e-6));
     double to = fmin(c->across.high, band_end[band + 1] - (joined ? strip_half[band + 1] : 0));
     point points[CURVE_STEPS + 1];
     size_t n = 0;
     for (int i = 0; from < to && i <= CURVE_STEPS; i++) {
-        double y = from + (to - from) * i / CURVE_STEPS, value = value_at(p, y, z - 1e-7);
+        double y = from + (to - from) * i / CURVE_STEPS, value = value_at(p, y, z - BELOW);
         if (value > p->up.low && value < p->up.high) {
             points[n++] = (point){page_x(c, y), page_y(p, value)};
             continue;
@@ -242,6 +253,7 @@ static void follow_curves(figure *f, const chart *c, const panel *p, use_run *us
 void draw_panel(figure *f, const chart *c, const panel *p) {
     draw_bands(f, c, p);
     draw_grid(f, c, p);
+    draw_edges(f, c, p);
     follow_curves(f, c, p, stroke_run);
     draw_frame(f, p);
 }

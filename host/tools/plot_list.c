@@ -12,7 +12,7 @@ enum {
     NUMBERS_MOST = 32,
     COLUMNS_MOST = 32,
     NAME_WIDEST = 330,
-    NAME_LEAST = 44,
+    NAME_LEAST = 56,
     GAP = 26
 };
 

@@ -37,7 +37,7 @@ bool is_free(const panel *p, box b) {
     return true;
 }
 
-/* A ring for the perfect gas, a disc for a fit, a diamond for a join. */
+/* A ring for the perfect gas, a disc for one band, a diamond for a join. */
 void draw_shape(figure *f, point at, colour ink, double size, const item *it) {
     const point diamond[] = {
         {at.x, at.y - 1.4 * size}, {at.x + 1.4 * size, at.y}, {at.x, at.y + 1.4 * size}, {at.x - 1.4 * size, at.y}};

@@ -22,7 +22,7 @@ use Rattle.air.specs.declared.Answer.{Answer}
 use Rattle.air.specs.declared.Logs.{Logs}
 use Rattle.air.specs.Quantities.{P0, D0, E0, isPressure, isDensity, isEnergy}
 use Rattle.air.specs.Held.{Held, held, refuses}
-use Rattle.air.specs.Temperature.{beyondFit, Raised, temperatureRule, temperatureStrip, TemperatureLogs, IsTemperatureIn, IsTemperature}
+use Rattle.air.specs.Temperature.{beyondFit, Raised, temperatureRule, TemperatureLogs, IsTemperatureIn, IsTemperature}
 use Rattle.air.specs.Entropy.{IsEntropy, EntropyLogs, entropyFrom}
 use Rattle.air.specs.Choices.{Choices, Lawful, chosen}
 use Rattle.air.specs.State.{propertyOf, temperatureLogs, entropyLogs, kelvinBy, temperatureAt, temperatureBy, Either, IsHeld, IsAnswer, ranged, heldBy, answerBy}
@@ -40,7 +40,7 @@ module _ (c : Choices) (law : Lawful c) where
   in-region : (r : Region) (p d : ℕ) (l : Logs) → IsTemperatureIn r p d l (temperatureAt c r p d l)
   in-region Refused p d l = refl
   in-region Perfect p d l = refl
-  in-region (Fitted b i) p d l = fitted-allowed c law temperatureRule (kelvinBy c) (raised c law) (temperatureStrip (l .y)) l
+  in-region (Fitted b i) p d l = fitted-allowed c law temperatureRule (kelvinBy c) (raised c law) _ l
 
   log-in : (least most d n : ℕ) → T (leb least n && leb n most) → 0 < least → most < 2 ^ 64 → 0 < d → d < 2 ^ 64 → IsLog n d (c .log n d)
   log-in least most d n t a b e f =

@@ -11,7 +11,7 @@ use Rattle.logarithm.specs.Log.{IsLog}
 use Rattle.integer.specs.Z.{up, dn}
 use Rattle.fraction.proofs.Order.{within-more}
 use Rattle.logarithm.proofs.Range.{log-least, log-most}
-use Rattle.bands.specs.Bands.{bandOf}
+use Rattle.bands.specs.Bands.{bandOf, stripOf}
 use Rattle.bands.specs.Region.{temperatureIndex, regionOf, pickRegion, beyondWindow, isPerfect}
 use Rattle.bands.specs.declared.Region.{Region}
 use Rattle.bands.specs.declared.Region.the-variants.{Refused, Perfect, Fitted}
@@ -26,12 +26,13 @@ use Rattle.air.specs.declared.Answer.{Answer}
 use Rattle.air.specs.Quantities.{D0, E0, isDensity, isEnergy}
 use Rattle.air.specs.Held.{Held, held, refuses, judges, shows}
 use Rattle.air.specs.Places.{valueAt, IsFit}
-use Rattle.air.specs.Temperature.{letterT, temperatureRule, temperatureStrip, TemperatureLogs, IsTemperatureIn, IsTemperature}
+use Rattle.air.specs.Temperature.{letterT, temperatureRule, TemperatureLogs, IsTemperatureIn, IsTemperature}
 use Rattle.air.specs.Entropy.{letterS, IsEntropy, entropyIn, entropyOf, beyondEntropy}
 use Rattle.air.specs.Accurate.{fitDistance, KelvinClaim, TemperatureClaim, EntropyClaim}
 use Rattle.air.specs.State.{Property, temperatureProperty, entropyProperty, propertyOf, Either, IsHeld, IsAnswer, refusesLogs, AcceptedBy, AcceptedAny, Accepted, ClaimAny, Accurate}
 use Rattle.air.proofs.Tests.{and-left, and-right, not-right, no-true, is-false, is-true, over, abs-of}
-use Rattle.air.proofs.Places.{Measured, fitted-claim}
+use Rattle.air.proofs.Places.{Measured, no-place, shown-claim, fitted-shown}
+use Rattle.air.proofs.Strips.{each-in-range}
 use Rattle.air.proofs.Fit.{YRange, FittedBox, fit-near}
 use Rattle.air.proofs.Entropy.{entropy-near}
 use Rattle.air.proofs.Between.{temperature-between}
@@ -91,26 +92,24 @@ module _ (n : ℕ) (n-least : 128 ≤ n) (p d : ℕ) (in-density : T (isDensity 
       }
 
   from-fit : (h : Held) → AcceptedBy temperatureProperty p d h → beyondWindow (l .z) ≡ false → isPerfect (l .z) ≡ false
-      → IsFit temperatureRule (temperatureStrip (l .y)) l h → TemperatureClaim n p d h
+      → IsFit temperatureRule (stripOf (l .y)) l h → TemperatureClaim n p d h
   from-fit h ok e₁ e₂ it =
-      let box : FittedBox (l .y) (l .z) =
-      record {
-        density = y-range d (l .y) in-density (taken .y);
-        least = over 250000 (l .z) e₂;
-        most = ltZ-no (not-right (ltZ (l .z) (negℤ (pos 1000000))) (ltZ (pos 3000000) (l .z)) (is-false e₁));
-      } in
-      let c = fitted-claim fitDistance n temperatureRule KelvinClaim FittedBox measured temperatureProperty (temperatureStrip (l .y)) l
-      (record { by-logs = λ t. tt; by-fit = λ e t. t }) box p d h ok it in
+      let s = stripOf (l .y) in
+      let box : (v : ℤ) → YRange v → FittedBox v (l .z) =
+      λ v r. record { density = r; least = over 250000 (l .z) e₂; most = ltZ-no (not-right (ltZ (l .z) (negℤ (pos 1000000))) (ltZ (pos 3000000) (l .z)) (is-false e₁)) } in
+      let c = fitted-shown fitDistance n temperatureRule KelvinClaim FittedBox measured temperatureProperty s l
+      (record { by-logs = λ t. no-place s (l .y); by-fit = λ e t. t })
+      (each-in-range (l .y) (λ v. FittedBox v (l .z)) box (y-range d (l .y) in-density (taken .y))) p d h ok it in
       record {
         logs = l;
-        value = valueAt (temperatureStrip (l .y)) (c .point) (l .y);
+        value = valueAt s (c .point) (l .y);
         no-refusal = ap (λ (x : Held). x .number) (c .is);
         letter = ap (λ (x : Held). x .letter) (c .is);
         carries = ap (λ (x : Held). x .logs) (c .is);
         shows = ap (λ (x : Held). x .value) (c .is);
         taken = taken;
         perfect = λ t. absurd (clashℤ {a = pos 250000} {b = l .z} (over 250000 (l .z) e₂) t);
-        fitted = λ t. c;
+        fitted = λ t. shown-claim s c;
       }
 
   from-logs : (h : Held) → AcceptedBy temperatureProperty p d h → IsTemperatureIn (regionOf (l .y) (l .z)) p d l h → TemperatureClaim n p d h

@@ -3,9 +3,11 @@ pub mod Tests
 pub mod Places
 pub mod Between
 pub mod Fit
+pub mod Strips
 pub mod Entropy
 pub mod Claims
 pub mod Allowed
+pub mod AtEdges
 pub mod ProofTable
 pub mod Sizes
 pub mod Pins

@@ -1,11 +1,11 @@
 -- Demand 3's definitions at exact places, and states that it covers.
 use mathlib.Core.Bool.{true, false}
 use mathlib.Core.Option.{none}
-use mathlib.Core.Path.{_≡_, refl}
+use mathlib.Core.Path.{_≡_, refl, sym}
 use Prim.Native.Nat.{ℕ}
 use lib.Count.{leadingZeros}
 use lib.Dec.{lit<, lit≤}
-use lib.IntN.{pos, negsuc}
+use lib.IntN.{pos, negsuc, negℤ}
 use Rattle.fraction.specs.Fraction.{Within, whole}
 use Rattle.fraction.proofs.Order.{within-more}
 use Rattle.fraction.proofs.Pins.{one-above, one-below, one-not-above, one-not-below, reaches, reaches-no-further}
@@ -15,8 +15,8 @@ use Rattle.quotient.specs.Mul.{mul}
 use Rattle.bicubic.specs.Bicubic.{gas1, gas2, gas3, gas4, bicubic}
 use Rattle.tgas1_temperature.specs.Pieces.{temperaturePieces}
 use Rattle.perfect.specs.Perfect.{perfectGas}
-use Rattle.air.specs.declared.Edges.the-variants.{Unfitted, One}
-use Rattle.air.specs.declared.Ends.the-variants.{Unjoined}
+use Rattle.air.specs.declared.Edges.the-variants.{Unfitted, One, Two}
+use Rattle.air.specs.declared.Ends.the-variants.{Unjoined, Both}
 use Rattle.air.specs.declared.Answer.{Answer}
 use Rattle.air.specs.declared.Answer.the-variants.{Shows}
 use Rattle.air.specs.Quantities.{P0, D0, E0, T0}
@@ -26,8 +26,9 @@ use Rattle.air.specs.Places.{heldAt}
 use Rattle.air.specs.Temperature.{letterT}
 use Rattle.air.specs.Entropy.{letterS, entropyIn, entropyAt, perfectEntropy}
 use Rattle.air.specs.Accurate.{fitDistance, entropyDistance, Between}
-use Rattle.air.specs.State.{Property, IsAnswer, temperatureBy, answerBy, refusesLogs, Accepted, unfitted, one}
+use Rattle.air.specs.State.{Property, IsAnswer, temperatureBy, answerBy, refusesLogs, Accepted, unfitted, one, two}
 use Rattle.air.proofs.Allowed.{allowed, lawful}
+use Rattle.air.proofs.AtEdges.{logs, edge, at-edges}
 
 -- ---- T0 is ten to 0 over T0: it is between for k from -2 to 1
 pub between-at-less-2 : Between (negsuc 1) T0
@@ -87,3 +88,11 @@ fitted-temperature =
     covered 1 320433595305 D0
     (Shows letterT (record { triple = true; x = pos 500000; y = pos 0; z = pos 500000 }) (One (record { fit = pos 4961733650; weight = pos 0 })) Unjoined (pos 856197990)) refl
     (record { no-10 = tt; no-11 = tt; by-logs = tt; by-fit = one tt })
+
+pub joined-temperature : Covered 1 13083925 4190468
+unfolding Accepted
+joined-temperature =
+    covered 1 13083925 4190468
+    (Shows letterT (logs (negℤ (pos 3889000)) (negℤ (pos 4489000)) (pos 600000)) (Two (edge (pos 5985381782) (pos 0)) (edge (pos 5989039273) (pos 0))) (Both (pos 1083775189) (pos 1084686422)) (pos 1084431276))
+    (sym (at-edges .wide-strip))
+    (record { no-10 = tt; no-11 = tt; by-logs = tt; by-fit = two tt tt })

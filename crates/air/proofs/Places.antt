@@ -71,6 +71,22 @@ pub record Measured (d n : ℕ) (r : Rule) (Claimed : Fraction → ℤ → ℤ �
   pub near : (y z w : ℤ) → Box y z → Weighs tolerance (r .pieceAt y z) y z w → Within d (fitted (r .pieceAt y z) y z w) (exactFit (r .pieceAt y z) n y z)
   pub claimed : (f : Fraction) (g v : ℤ) → Within d g f → r .IsValue g v → Claimed f g v
 
+-- where a rule refuses nothing by the logarithms
+pub no-place : (s : Strip) (y : ℤ) → T (not (anyPlace s (λ v. false) y))
+no-place Clear y = tt
+no-place (Between a b) y = tt
+
+-- an answer that shows a value, with what is claimed at every place
+pub record Shown (d n : ℕ) (r : Rule) (Claimed : Fraction → ℤ → ℤ → Type 0) (s : Strip) (l : Logs) (h : Held) : Type 0 where
+  pub point : ℤ → Point
+  pub is : h ≡ showsAt r s l point
+  pub points : AtPlaces s (λ v. PointClaim d n r Claimed v (l .z) (point v)) (l .y)
+
+-- is claimed as demand 3 has it
+pub shown-claim : {d n : ℕ} {r : Rule} {Claimed : Fraction → ℤ → ℤ → Type 0} {l : Logs} {h : Held} (s : Strip) → Shown d n r Claimed s l h → FitClaim d n r Claimed s l h
+shown-claim {l = l} Clear c = record { point = c .point (l .y); is = c .is; claim = c .points }
+shown-claim (Between a b) c = record { low = c .point a; high = c .point b; is = c .is; low-claim = c .points .0; high-claim = c .points .1 }
+
 -- the edges of an accepted answer
 judged : (k : Property) (r : Rule) → ((e : Edge) → T (not (k .byFit e)) → T (not (r .beyondFit (e .fit))))
     → (s : Strip) (q : ℤ → Point) (y : ℤ) → NoEdgeRefused k (edgesAt s q y) → T (not (anyPlace s (λ v. r .beyondFit (q v .edge .fit)) y))
@@ -92,17 +108,17 @@ module _ (d n : ℕ) (r : Rule) (Claimed : Fraction → ℤ → ℤ → Type 0) 
     point-claim c z (q c) (b .1) (p .1) (not-right (r .beyondFit (q a .edge .fit)) (r .beyondFit (q c .edge .fit)) t),
   )
 
-  pub fitted-claim : (k : Property) (s : Strip) (l : Logs) → Judges k r s l → AtPlaces s (λ v. Box v (l .z)) (l .y)
-      → (v w : ℕ) (h : Held) → AcceptedBy k v w h → IsFit r s l h → FitClaim d n r Claimed s l h
+  pub fitted-shown : (k : Property) (s : Strip) (l : Logs) → Judges k r s l → AtPlaces s (λ v. Box v (l .z)) (l .y)
+      → (v w : ℕ) (h : Held) → AcceptedBy k v w h → IsFit r s l h → Shown d n r Claimed s l h
   unfolding heldAt
-  fitted-claim k s l j box v w h ok it = go (anyPlace s (λ x. r .beyondLogs x (l .z)) (l .y)) (anyPlace s (λ x. r .beyondFit (q x .edge .fit)) (l .y)) refl refl (it .is)
+  fitted-shown k s l j box v w h ok it = go (anyPlace s (λ x. r .beyondLogs x (l .z)) (l .y)) (anyPlace s (λ x. r .beyondFit (q x .edge .fit)) (l .y)) refl refl (it .is)
     where
       q : ℤ → Point
       q = it .point
 
       go : (a b : Bool) → anyPlace s (λ x. r .beyondLogs x (l .z)) (l .y) ≡ a → anyPlace s (λ x. r .beyondFit (q x .edge .fit)) (l .y) ≡ b
           → h ≡ cond a (judges (r .logsNumber) (r .letter) l Unfitted) (cond b (judges (r .fitNumber) (r .letter) l (edgesAt s q (l .y))) (showsAt r s l q))
-          → FitClaim d n r Claimed s l h
+          → Shown d n r Claimed s l h
       go true b e₁ e₂ is = absurd (no-true e₁ (j .by-logs (subst (λ (x : Held). T (not (refusesLogs k (x .logs)))) is (ok .by-logs))))
       go false true e₁ e₂ is = absurd (no-true e₂ (judged k r (j .by-fit) s q (l .y) (subst (λ (x : Held). NoEdgeRefused k (x .edges)) is (ok .by-fit))))
       go false false e₁ e₂ is = record { point = q; is = is; points = points-claim s (l .y) (l .z) q box (it .points) (is-false e₂) }

@@ -7,12 +7,13 @@ use lib.IntN.{ℤ, pos, _+ℤ_, _-ℤ_}
 use lib.Signed.{_≤ℤ_, _<ℤ_}
 use Rattle.fraction.specs.Fraction.{Fraction, Within, over, floor}
 use Rattle.fraction.specs.Tens.{Above, Below}
+use Rattle.bands.specs.Bands.{stripOf}
 use Rattle.perfect.specs.Perfect.{perfectGas}
 use Rattle.air.specs.declared.Logs.{Logs}
 use Rattle.air.specs.Quantities.{T0}
 use Rattle.air.specs.Held.{Held}
 use Rattle.air.specs.Places.{FitClaim}
-use Rattle.air.specs.Temperature.{letterT, temperatureRule, temperatureStrip, TemperatureLogs}
+use Rattle.air.specs.Temperature.{letterT, temperatureRule, TemperatureLogs}
 use Rattle.air.specs.Entropy.{letterS, EntropyLogs}
 use Rattle.air.specs.Exact.{exactEntropy}
 
@@ -39,7 +40,7 @@ pub record KelvinClaim (f : Fraction) (g v : ℤ) : Type 0 where
   pub is : v ≡ pos kelvin
   pub between : Between (exactMillionths f) kelvin
 
--- a temperature is fitted where its carried Z is above 250,000
+-- a temperature is fitted where its carried Z is above 250,000, and joined where its carried Y is then in a strip (request 1)
 pub record TemperatureClaim (n p d : ℕ) (h : Held) : Type 0 where
   pub logs : Logs
   pub value : ℤ
@@ -49,7 +50,7 @@ pub record TemperatureClaim (n p d : ℕ) (h : Held) : Type 0 where
   pub shows : h .value ≡ some value
   pub taken : TemperatureLogs p d logs
   pub perfect : (logs .z) ≤ℤ pos 250000 → value ≡ pos (perfectGas p d)
-  pub fitted : pos 250000 <ℤ (logs .z) → FitClaim fitDistance n temperatureRule KelvinClaim (temperatureStrip (logs .y)) logs h
+  pub fitted : pos 250000 <ℤ (logs .z) → FitClaim fitDistance n temperatureRule KelvinClaim (stripOf (logs .y)) logs h
 
 pub record EntropyClaim (e d : ℕ) (h : Held) : Type 0 where
   pub logs : Logs

@@ -3,6 +3,7 @@ pub mod Held
 pub mod Join
 pub mod Choices
 pub mod Places
+pub mod Ready
 pub mod Temperature
 pub mod Entropy
 pub mod Exact

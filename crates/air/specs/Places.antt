@@ -11,6 +11,7 @@ use Rattle.fit.specs.declared.Edge.{Edge}
 use Rattle.fit.specs.Fit.{Piece, Weighs, fitted}
 use Rattle.fit.specs.Edge.{edgeWith}
 use Rattle.fit.specs.Exact.{exactFit}
+use Rattle.proportion.specs.Straight.{straight}
 use Rattle.bands.specs.declared.Strip.{Strip}
 use Rattle.bands.specs.declared.Strip.the-variants.{Clear, Between}
 use Rattle.air.specs.declared.Logs.{Logs}
@@ -97,8 +98,20 @@ pub record PointClaim (d n : ℕ) (r : Rule) (Claimed : Fraction → ℤ → ℤ
   pub near : Within d (q .edge .fit) (exactFit (r .pieceAt y z) n y z)
   pub value : Claimed (exactFit (r .pieceAt y z) n y z) (q .edge .fit) (q .value)
 
--- at every place; in a strip the value is the straight line between
-pub record FitClaim (d n : ℕ) (r : Rule) (Claimed : Fraction → ℤ → ℤ → Type 0) (s : Strip) (l : Logs) (h : Held) : Type 0 where
-  pub point : ℤ → Point
-  pub is : h ≡ showsAt r s l point
-  pub points : AtPlaces s (λ v. PointClaim d n r Claimed v (l .z) (point v)) (l .y)
+-- outside a strip: one fit, claimed at the state's own Y, and its value is shown
+pub record OwnClaim (d n : ℕ) (r : Rule) (Claimed : Fraction → ℤ → ℤ → Type 0) (l : Logs) (h : Held) : Type 0 where
+  pub point : Point
+  pub is : h ≡ shows (r .letter) l (One (point .edge)) Unjoined (point .value)
+  pub claim : PointClaim d n r Claimed (l .y) (l .z) point
+
+-- in a strip from a to b: two fits, each claimed at its edge with the state's Z, and the straight line between their values is shown
+pub record JoinClaim (d n : ℕ) (r : Rule) (Claimed : Fraction → ℤ → ℤ → Type 0) (a b : ℤ) (l : Logs) (h : Held) : Type 0 where
+  pub low : Point
+  pub high : Point
+  pub is : h ≡ shows (r .letter) l (Two (low .edge) (high .edge)) (Both (low .value) (high .value)) (straight a b (low .value) (high .value) (l .y))
+  pub low-claim : PointClaim d n r Claimed a (l .z) low
+  pub high-claim : PointClaim d n r Claimed b (l .z) high
+
+abbrev pub FitClaim : ℕ → ℕ → Rule → (Fraction → ℤ → ℤ → Type 0) → Strip → Logs → Held → Type 0
+FitClaim d n r Claimed Clear l h = OwnClaim d n r Claimed l h
+FitClaim d n r Claimed (Between a b) l h = JoinClaim d n r Claimed a b l h

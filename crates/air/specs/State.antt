@@ -5,6 +5,7 @@ use mathlib.Core.Path.{_≡_}
 use Prim.Native.Nat.{ℕ}
 use lib.Dec.{T}
 use lib.IntN.{ℤ, pos, natAbs, _-ℤ_}
+use Rattle.bands.specs.Bands.{stripOf}
 use Rattle.bands.specs.declared.Region.{Region}
 use Rattle.bands.specs.declared.Region.the-variants.{Refused, Perfect, Fitted}
 use Rattle.bands.specs.Region.{regionOf, beyondWindow}
@@ -21,7 +22,7 @@ use Rattle.perfect.specs.Perfect.{perfectGas}
 use Rattle.air.specs.declared.Ends.the-variants.{Unjoined}
 use Rattle.air.specs.Held.{Held, held, refuses, judges, shows}
 use Rattle.air.specs.Places.{fittedBy}
-use Rattle.air.specs.Temperature.{letterT, IsTemperature, beyondFit, wholeMillionths, temperatureRule, temperatureStrip}
+use Rattle.air.specs.Temperature.{letterT, IsTemperature, beyondFit, wholeMillionths, temperatureRule}
 use Rattle.air.specs.Entropy.{IsEntropy, beyondEntropy, entropyFrom}
 use Rattle.air.specs.Accurate.{TemperatureClaim, EntropyClaim}
 use Rattle.air.specs.Choices.{Choices}
@@ -50,7 +51,7 @@ kelvinBy c g = pos (c .power (natAbs (wholeMillionths g)))
 abbrev pub temperatureAt : Choices → Region → ℕ → ℕ → Logs → Held
 temperatureAt c Refused p d l = judges 12 letterT l Unfitted
 temperatureAt c Perfect p d l = shows letterT l Unfitted Unjoined (pos (perfectGas p d))
-temperatureAt c (Fitted b i) p d l = fittedBy c temperatureRule (kelvinBy c) (temperatureStrip (l .y)) l
+temperatureAt c (Fitted b i) p d l = fittedBy c temperatureRule (kelvinBy c) (stripOf (l .y)) l
 
 unfoldable pub temperatureBy : Choices → ℕ → ℕ → Logs → Held
 temperatureBy c p d l = temperatureAt c (regionOf (l .y) (l .z)) p d l

@@ -1,4 +1,4 @@
--- Document 01, Temperature: what an answer for a pressure and a density holds.
+-- Document 01, Temperature, and request 1, its joins: what an answer for a pressure and a density holds.
 use mathlib.Core.Bool.{Bool, true, false, _||_}
 use mathlib.Core.Path.{_≡_}
 use Prim.Native.Nat.{ℕ}
@@ -7,9 +7,7 @@ use lib.Signed.{ltZ, shrZ}
 use Rattle.logarithm.specs.Log.{IsLog}
 use Rattle.power.specs.Power.{IsPower}
 use Rattle.fit.specs.Fit.{Piece}
-use Rattle.bands.specs.declared.Strip.{Strip}
-use Rattle.bands.specs.declared.Strip.the-variants.{Clear}
-use Rattle.bands.specs.Bands.{bandOf}
+use Rattle.bands.specs.Bands.{bandOf, stripOf}
 use Rattle.bands.specs.Region.{temperatureIndex, regionOf}
 use Rattle.tgas1_temperature.specs.Pieces.{temperaturePiece}
 use Rattle.bands.specs.declared.Region.{Region}
@@ -57,10 +55,6 @@ temperatureRule =
       IsValue = Raised;
     }
 
--- document 01: temperature has no join between bands
-abbrev pub temperatureStrip : ℤ → Strip
-temperatureStrip y = Clear
-
 -- Y of the density, X of the pressure, Z their difference
 pub record TemperatureLogs (p d : ℕ) (l : Logs) : Type 0 where
   pub y : IsLog d D0 (l .y)
@@ -68,11 +62,11 @@ pub record TemperatureLogs (p d : ℕ) (l : Logs) : Type 0 where
   pub z : l .z ≡ l .x -ℤ l .y
   pub triple : l .triple ≡ true
 
--- what may be held in a region: 12, the perfect gas, or the fit at its places
+-- what may be held in a region: 12, the perfect gas, or the fit, which a strip joins
 abbrev pub IsTemperatureIn : Region → ℕ → ℕ → Logs → Held → Type 0
 IsTemperatureIn Refused p d l h = h ≡ judges 12 letterT l Unfitted
 IsTemperatureIn Perfect p d l h = h ≡ shows letterT l Unfitted Unjoined (pos (perfectGas p d))
-IsTemperatureIn (Fitted b i) p d l h = IsFit temperatureRule (temperatureStrip (l .y)) l h
+IsTemperatureIn (Fitted b i) p d l h = IsFit temperatureRule (stripOf (l .y)) l h
 
 -- what may be held for a pressure and a density in range: free are the two logarithms, and the weights and temperatures of a fit
 pub record IsTemperature (p d : ℕ) (h : Held) : Type 0 where

@@ -17,8 +17,8 @@ use Rattle.sheet_search.specs.declared.Lookup.{Lookup}
 use Rattle.sheet_search.specs.declared.Lookup.the-variants.{Hit, Miss}
 use Rattle.calculator.specs.Search.{locate, answerAt, searchBy}
 use Rattle.flat_parts.specs.Flat.{flatMark}
-use Rattle.flat.specs.Back.{bit, heldIn, unjoined}
-use Rattle.flat.proofs.Back.{flat-keeps-all}
+use Rattle.flat.specs.Back.{bit, heldIn}
+use Rattle.flat.proofs.Back.{settled, back}
 use Rattle.airstate.specs.Plot.{Points, PlotExact}
 
 at-shown : (f : Lookup) → CanDraw (answerAt chosen f)
@@ -48,8 +48,8 @@ told false x t = absurd t
 pub plot-exact : PlotExact
 plot-exact s spelling a c e f one sixteen =
     let h = searchBy chosen s spelling in
-    let back : heldIn a ≡ unjoined h = ap heldIn e ∙ flat-keeps-all h in
-    let l : h .logs ≡ some _ = sym (ap (λ (g : Held). g .logs) back) ∙ told (bit 1 (a .carries)) _ one in
-    let v : h .value ≡ some (a .value) = sym (ap (λ (g : Held). g .value) back) ∙ told (bit 16 (a .carries)) (a .value) sixteen in
-    let letter : h .letter ≡ a .letter = sym (ap (λ (g : Held). g .letter) back) in
+    let told-of : heldIn a ≡ settled h = ap heldIn e ∙ back h in
+    let l : h .logs ≡ some _ = sym (ap (λ (g : Held). g .logs) told-of) ∙ told (bit 1 (a .carries)) _ one in
+    let v : h .value ≡ some (a .value) = sym (ap (λ (g : Held). g .value) told-of) ∙ told (bit 16 (a .carries)) (a .value) sixteen in
+    let letter : h .letter ≡ a .letter = sym (ap (λ (g : Held). g .letter) told-of) in
     rw f (subst (λ (k : ℕ). Points (flatMark (markOf h)) (a .y) (shownValue k (a .value))) letter (drawn h _ (a .value) l v (search-shown s spelling)))

@@ -1,3 +1,4 @@
 pub mod Index
 pub mod Regions
+pub mod Strips
 pub mod Tests

@@ -31,7 +31,7 @@ abbrev pub pickStrip : Bool → Strip → Strip → Strip
 pickStrip true a b = a
 pickStrip false a b = b
 
--- document 01, Entropy, the joins: the edges of the strip that a Y is strictly inside of, if there is one
+-- document 01, Entropy, the joins, and request 1: the edges of the strip that a Y is strictly inside of, if there is one
 abbrev pub stripOf : ℤ → Strip
 stripOf y =
     pickStrip (inside lowEdge 25000 y) (Between (lowEdge -ℤ pos 25000) (lowEdge +ℤ pos 25000))

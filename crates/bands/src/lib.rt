@@ -12,7 +12,7 @@ pub enum Band {
     High,
 }
 
-// Where an entropy is joined: nowhere, or between two edges.
+// Where a property is joined: nowhere, or between two edges.
 pub enum Strip {
     Clear,
     Between(i64, i64),

@@ -2,8 +2,8 @@
 use mathlib.Core.Bool.{Bool, true, false, cond}
 use mathlib.Core.Option.{some}
 use mathlib.Core.Path.{_≡_, refl, sym, subst}
-use Prim.Native.Nat.{ℕ, suc, _+_, _-_, _*_, _/_, _^_, _≤_, _<_}
-use native.Mathlib.Nat.{le-trans, le-of-lt, mul-le-mul-left}
+use Prim.Native.Nat.{ℕ, suc, _+_, _-_, _*_, _^_, _≤_, _<_}
+use native.Mathlib.Nat.{le-trans, mul-le-mul-left}
 use native.Mathlib.Omega.{arith}
 use lib.Dec.{T, le→leb, lit≤}
 use lib.IntN.{ℤ, pos, negsuc, natAbs, _-ℤ_, _*ℤ_}
@@ -11,8 +11,6 @@ use lib.Signed.{_≤ℤ_, _<ℤ_, shrZ}
 use lib.Ieee.{binary64, inFloat}
 use Rattle.integer.specs.Z.{up, dn, zs, v, ≤→, <→, →≤, ≡-by}
 use Rattle.integer.specs.Laws.{abs-+, abs--, abs-*}
-use Rattle.power.specs.Choice.{powerOf}
-use Rattle.power.proofs.Kelvin.{power-small}
 use Rattle.quotient.specs.Range.{Between}
 use Rattle.proportion.specs.Straight.{straight}
 use Rattle.quotient.proofs.Floors.{quotient-upto}
@@ -33,8 +31,9 @@ use Rattle.air.specs.declared.Edges.the-variants.{Unfitted}
 use Rattle.air.specs.declared.Ends.the-variants.{Unjoined}
 use Rattle.air.specs.Quantities.{isPressure, isDensity, isEnergy}
 use Rattle.air.specs.Held.{Held, judges, shows}
+use Rattle.air.specs.Ready.{PlaceReady}
 use Rattle.air.specs.Places.{Rule, Point, edgesAt, valueAt, showsAt, heldAt, pointBy}
-use Rattle.air.specs.Temperature.{beyondFit, temperatureRule, temperatureStrip}
+use Rattle.air.specs.Temperature.{beyondFit, temperatureRule}
 use Rattle.air.specs.Entropy.{letterS, entropyAt, aboveLimit, entropyIn}
 use Rattle.air.specs.Join.{joined, anyPlace}
 use Rattle.air.specs.Choices.{chosen}
@@ -43,11 +42,11 @@ use Rattle.air.proofs.Fit.{YRange}
 use Rattle.air.proofs.Claims.{y-range}
 use Rattle.air.proofs.Allowed.{lawful, temperature-logs, entropy-logs}
 use Rattle.air.proofs.Sizes.{entropy-most}
+use Rattle.air.proofs.Strips.{strip-is, strip-ready}
 use Rattle.temperature.specs.Ready.{TemperatureReady}
-use Rattle.temperature_fit.proofs.Passes.{passes, kelvin-range}
+use Rattle.temperature_fit.proofs.Passes.{or-left, or-right, kelvin-most}
 use Rattle.temperature.proofs.Laws.{dividable}
-use Rattle.entropy_fit.specs.Ready.{PlaceReady}
-use Rattle.entropy.proofs.Laws.{strip-ready, place-ready}
+use Rattle.entropy.proofs.Laws.{place-ready}
 use Rattle.mark.specs.Mark.{Drawable, CanDraw, Marked}
 use Rattle.mark.proofs.Placed.{marked}
 
@@ -71,27 +70,7 @@ places-shown r s l q y-in small = go (anyPlace s (λ v. r .beyondLogs v (l .z)) 
     go false true e = tt
     go false false e = draws y-in (small e)
 
--- ---- temperature
-kelvin-most : (g : ℤ) → beyondFit g ≡ false → natAbs (kelvinBy chosen g) ≤ 2 ^ 53
-kelvin-most g e =
-    let p = passes g e in
-    subst (λ (n : ℕ). powerOf n ≤ 2 ^ 53) (sym (p .millionths)) (le-of-lt (power-small (natAbs g / 10000) (kelvin-range g p)))
-
-temperature-shown : (p d : ℕ) (l : Logs) → TemperatureReady p d l → CanDraw (temperatureBy chosen p d l)
-unfolding temperatureBy
-temperature-shown p d l h = go (regionOf (l .y) (l .z)) refl
-  where
-    r : YRange (l .y)
-    r = y-range d (l .y) (h .density) (h .taken .y)
-
-    go : (x : Region) → regionOf (l .y) (l .z) ≡ x → CanDraw (temperatureAt chosen x p d l)
-    go Refused e = tt
-    go Perfect e = draws r (le-trans (perfect-small p d (dividable p d l h (perfect-region (l .y) (l .z) e))) (lit≤ tt))
-    go (Fitted b i) e =
-        let q = pointBy chosen temperatureRule (kelvinBy chosen) (l .z) in
-        places-shown temperatureRule (temperatureStrip (l .y)) l q r (kelvin-most (q (l .y) .edge .fit))
-
--- ---- entropy
+-- ---- a join
 -- a place between the edges is no farther from the lower than the upper is
 apart-some : (a b y : ℤ) → Between a b y → (0 < natAbs (b -ℤ a)) × (natAbs (y -ℤ a) ≤ natAbs (b -ℤ a))
 apart-some a b y h =
@@ -113,6 +92,32 @@ straight-most a b low high y h k l =
     quotient-upto (d *ℤ (y -ℤ a)) (natAbs d) (natAbs (b -ℤ a)) (w .0) (subst (λ (n : ℕ). n ≤ natAbs d * natAbs (b -ℤ a)) (sym (abs-* d (y -ℤ a))) (mul-le-mul-left (natAbs d) (w .1))) in
     omega (arith, abs-+ low (shrZ (d *ℤ (y -ℤ a)) (natAbs (b -ℤ a))), abs-- high low, q)
 
+-- ---- temperature
+temperature-shown : (p d : ℕ) (l : Logs) → TemperatureReady p d l → CanDraw (temperatureBy chosen p d l)
+unfolding temperatureBy
+temperature-shown p d l h = go (regionOf (l .y) (l .z)) refl
+  where
+    r : YRange (l .y)
+    r = y-range d (l .y) (h .density) (h .taken .y)
+
+    -- a temperature for each fit that 13 lets through
+    q : ℤ → Point
+    q = pointBy chosen temperatureRule (kelvinBy chosen) (l .z)
+
+    by-strip : (s : Strip) → stripOf (l .y) ≡ s → anyPlace s (λ v. beyondFit (q v .edge .fit)) (l .y) ≡ false → natAbs (valueAt s q (l .y)) ≤ 2 ^ 53
+    by-strip Clear e f = le-trans (kelvin-most (q (l .y) .edge .fit) f) (lit≤ tt)
+    by-strip (strip.Between a b) e f =
+        let g = q a .edge .fit in
+        let k = q b .edge .fit in
+        straight-most a b (kelvinBy chosen g) (kelvinBy chosen k) (l .y) (strip-is (l .y) e .between)
+        (kelvin-most g (or-left (beyondFit g) (beyondFit k) f)) (kelvin-most k (or-right (beyondFit g) (beyondFit k) f))
+
+    go : (x : Region) → regionOf (l .y) (l .z) ≡ x → CanDraw (temperatureAt chosen x p d l)
+    go Refused e = tt
+    go Perfect e = draws r (le-trans (perfect-small p d (dividable p d l h (perfect-region (l .y) (l .z) e))) (lit≤ tt))
+    go (Fitted b i) e = places-shown temperatureRule (stripOf (l .y)) l q r (by-strip (stripOf (l .y)) refl)
+
+-- ---- entropy
 entropy-shown : (l : Logs) → YRange (l .y) → PlaceReady (l .y) (l .z) → CanDraw (entropyIn (stripOf (l .y)) l)
 unfolding entropyIn
 entropy-shown l r h = by-strip (stripOf (l .y)) refl

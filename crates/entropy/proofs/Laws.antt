@@ -1,32 +1,25 @@
 -- What the steps of an entropy's answer amount to, over the definitions.
-use mathlib.Core.Bool.{Bool, true, false, _&&_, _||_, cond}
-use mathlib.Core.Path.{_≡_, refl, sym, ap, _∙_, subst}
-use Prim.Native.Nat.{ℕ, _+_, _*_, _^_, _≤_, _<_}
+use mathlib.Core.Bool.{Bool, true, false, _||_, cond}
+use mathlib.Core.Path.{_≡_, sym, ap, _∙_}
+use Prim.Native.Nat.{ℕ, _≤_}
 use native.Mathlib.Omega.{arith}
-use lib.Dec.{T, leb, leb→le, lit≤}
-use lib.IntN.{ℤ, pos, negsuc, natAbs, _+ℤ_, _-ℤ_}
-use lib.Signed.{_≤ℤ_, _<ℤ_, ltZ, leZ-yes, ltZ-yes}
-use Rattle.integer.specs.Z.{<→, →≤}
+use lib.Dec.{T, leb, leb→le}
+use lib.IntN.{ℤ}
 use Rattle.integer.specs.Laws.{apart}
-use Rattle.integer.specs.Tests.{is-true}
 use Rattle.logarithm.specs.Log.{IsLog}
 use Rattle.logarithm.proofs.Range.{log-least, log-most}
-use Rattle.quotient.specs.Range.{Between}
 use Rattle.proportion.specs.Straight.{straight}
-use Rattle.bands.specs.declared.Strip.{Strip}
 use Rattle.bands.specs.declared.Strip.the-variants.{Clear}
 use Rattle.bands.specs.declared.Strip.the-variants as strip
-use Rattle.bands.specs.Bands.{lowEdge, highEdge, inside, pickStrip, stripOf}
 use Rattle.air.specs.declared.Logs.{Logs}
 use Rattle.air.specs.declared.Edges.the-variants.{Unfitted}
 use Rattle.air.specs.declared.Ends.the-variants.{Unjoined}
 use Rattle.air.specs.Quantities.{D0, E0, isEnergy, isDensity}
 use Rattle.air.specs.Held.{Held, judges, shows}
+use Rattle.air.specs.Ready.{PlaceReady}
 use Rattle.air.specs.Entropy.{letterS, entropyAt, aboveLimit, entropyIn}
 use Rattle.air.proofs.Tests.{and-left, and-right}
 use Rattle.air.proofs.Claims.{y-most}
-use Rattle.entropy_fit.specs.Ready.{PlaceReady}
-use Rattle.entropy.specs.Ready.{JoinReady}
 
 -- ---- the answer outside a strip and inside one
 module _ (l : Logs) where
@@ -57,36 +50,6 @@ module _ (l : Logs) where
     unfolding entropyIn verdict
     shown-join s e f h =
         ap (shows letterS l Unfitted Unjoined) h ∙ ap (λ (t : Bool). verdict t) (sym f) ∙ ap (λ (t : Bool). verdict (t || aboveLimit b (l .z))) (sym e)
-
--- ---- a strip's edges
-lt-le : {p q : ℤ} → p <ℤ q → p ≤ℤ q
-lt-le h = →≤ (omega (arith, <→ h))
-
-edges : (p q y z : ℤ) → ltZ p y && ltZ y q ≡ true → natAbs p ≤ 7000000 → natAbs q ≤ 7000000 → natAbs z ≤ 5000000 → p <ℤ q → JoinReady p q y z
-edges p q y z e hp hq hz h =
-    record {
-      between = record { apart = h; low = lt-le (ltZ-yes (and-left (ltZ p y) (ltZ y q) (is-true e))); high = lt-le (ltZ-yes (and-right (ltZ p y) (ltZ y q) (is-true e))) };
-      low = record { y-most = hp; z-most = hz };
-      high = record { y-most = hq; z-most = hz };
-    }
-
-pub strip-ready : (y z : ℤ) {a b : ℤ} → natAbs z ≤ 5000000 → stripOf y ≡ strip.Between a b → JoinReady a b y z
-strip-ready y z {a} {b} hz e = go (inside lowEdge 25000 y) (inside highEdge 5000 y) refl refl e
-  where
-    go : (p q : Bool) → inside lowEdge 25000 y ≡ p → inside highEdge 5000 y ≡ q
-        → pickStrip p (strip.Between (lowEdge -ℤ pos 25000) (lowEdge +ℤ pos 25000)) (pickStrip q (strip.Between (highEdge -ℤ pos 5000) (highEdge +ℤ pos 5000)) Clear) ≡ strip.Between a b
-        → JoinReady a b y z
-    go true q h k s =
-        let ea : negsuc 4524999 ≡ a = cc in
-        let eb : negsuc 4474999 ≡ b = cc in
-        subst (λ (v : ℤ). JoinReady v b y z) ea (subst (λ (v : ℤ). JoinReady (negsuc 4524999) v y z) eb
-        (edges (negsuc 4524999) (negsuc 4474999) y z h (lit≤ tt) (lit≤ tt) hz (ltZ-yes tt)))
-    go false true h k s =
-        let ea : negsuc 504999 ≡ a = cc in
-        let eb : negsuc 494999 ≡ b = cc in
-        subst (λ (v : ℤ). JoinReady v b y z) ea (subst (λ (v : ℤ). JoinReady (negsuc 504999) v y z) eb
-        (edges (negsuc 504999) (negsuc 494999) y z k (lit≤ tt) (lit≤ tt) hz (ltZ-yes tt)))
-    go false false h k s = let f : _≡_ {A = ℕ} 0 1 = cc in absurd (omega arith)
 
 -- ---- the logarithms of an energy and a density in range
 pub place-ready : (e d : ℕ) (y z : ℤ) → T (isEnergy e) → T (isDensity d) → IsLog d D0 y → IsLog e E0 z → PlaceReady y z

@@ -12,8 +12,7 @@ ghost use Rattle.air.specs.Held.{held, judges};
 ghost use Rattle.air.specs.Entropy.{letterS, entropyIn, entropyFrom};
 ghost use Rattle.air.specs.Choices.{chosen};
 ghost use Rattle.air.specs.State.{entropyProperty, heldBy};
-ghost use Rattle.entropy_fit.specs.Ready.{PlaceReady};
-ghost use Rattle.entropy.specs.Ready.{JoinReady};
+ghost use Rattle.air.specs.Ready.{PlaceReady, JoinReady};
 
 // Refusal 12 of an entropy.
 fn beyond(logs: Logs) -> Answer

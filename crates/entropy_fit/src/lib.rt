@@ -1,7 +1,7 @@
 // The entropy at a place, and whether Z is above its limit there.
 ghost use mathlib.Core.Path.{_≡_};
 ghost use Rattle.air.specs.Entropy.{rise, entropyAt, aboveLimit};
-ghost use Rattle.entropy_fit.specs.Ready.{PlaceReady};
+ghost use Rattle.air.specs.Ready.{PlaceReady};
 
 // m of the perfect entropy.
 fn rise(y: i64, z: i64) -> i64

@@ -83,8 +83,8 @@ power-some : (g : ℕ) → g ≤ 1960000 → 0 < powerOf g
 unfolding powerOf
 power-some g h = omega (arith, step-is g h .least)
 
--- exact as a double
-pub power-small : (g : ℕ) → g ≤ 1960000 → powerOf g < 9007199254740992
+-- small enough for the straight line between two, and exact as a double
+pub power-small : (g : ℕ) → g ≤ 1960000 → powerOf g < 2 ^ 43
 unfolding powerOf
 power-small g h =
     let r : g % 64 ≤ 64 = omega arith in

@@ -16,7 +16,7 @@ use Rattle.air.specs.Quantities.{isPressure, isDensity, isEnergy}
 use Rattle.air.specs.Choices.{Choices, Lawful}
 use Rattle.air.specs.Join.{anyPlace}
 use Rattle.air.specs.Places.{Rule, Point, heldAt, pointBy}
-use Rattle.air.specs.Temperature.{temperatureRule, temperatureStrip}
+use Rattle.air.specs.Temperature.{temperatureRule}
 use Rattle.air.specs.Entropy.{entropyIn, entropyFrom, beyondEntropy}
 use Rattle.air.specs.State.{temperatureLogs, entropyLogs, kelvinBy, temperatureAt, temperatureBy, propertyOf, ranged, heldBy, answerBy}
 use Rattle.kind.specs.declared.Kind.{Kind}
@@ -25,6 +25,7 @@ use Rattle.kind.specs.Kind.{kindOf}
 use Rattle.sheet_search.specs.declared.Lookup.{Lookup}
 use Rattle.sheet_search.specs.declared.Lookup.the-variants.{Hit, Miss}
 use Rattle.bands.specs.declared.Strip.{Strip}
+use Rattle.bands.specs.Bands.{stripOf}
 use Rattle.bands.specs.declared.Region.{Region}
 use Rattle.bands.specs.declared.Region.the-variants as r
 use Rattle.bands.specs.Region.{regionOf}
@@ -70,7 +71,7 @@ module _ (c : Choices) where
   temperature : (g : Region) (p d : ℕ) (l : Logs) → Holder (temperatureAt c g p d l)
   temperature r.Refused p d l = judged
   temperature r.Perfect p d l = shown
-  temperature (r.Fitted b i) p d l = fit temperatureRule (temperatureStrip (l .y)) l (pointBy c temperatureRule (kelvinBy c) (l .z))
+  temperature (r.Fitted b i) p d l = fit temperatureRule (stripOf (l .y)) l (pointBy c temperatureRule (kelvinBy c) (l .z))
 
   by-kind : (k : Kind) (v w : ℕ) → Holder (heldBy c (propertyOf k) v w)
   unfolding temperatureBy

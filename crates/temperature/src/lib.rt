@@ -3,17 +3,20 @@ use air::Answer;
 use air::Edges;
 use air::Ends;
 use air::Logs;
+use bands::Band;
 use bands::Region;
+use bands::Strip;
 use fit::Edge;
 ghost use mathlib.Core.Path.{_≡_};
 ghost use mathlib.Core.Option.{some};
+ghost use Rattle.bands.specs.Bands.{stripOf};
 ghost use Rattle.bands.specs.declared.Strip.the-variants.{Clear};
 ghost use Rattle.air.specs.Held.{held};
-ghost use Rattle.air.specs.Places.{heldAt, pointOf};
+ghost use Rattle.air.specs.Places.{heldAt, pointOf, fittedBy};
 ghost use Rattle.air.specs.Temperature.{temperatureRule};
 ghost use Rattle.air.specs.Choices.{chosen};
 ghost use Rattle.air.specs.State.{kelvinBy, temperatureBy, temperatureProperty, heldBy};
-ghost use Rattle.temperature.specs.Ready.{TemperatureReady};
+ghost use Rattle.temperature.specs.Ready.{FittedReady, TemperatureReady};
 
 // The answer of a fit at the state's own place.
 fn unjoined(logs: Logs, e: Edge) -> Answer
@@ -32,6 +35,22 @@ fn unjoined(logs: Logs, e: Edge) -> Answer
     )
 }
 
+// The answer of the piece that Y and Z choose, or of a strip's edges.
+fn fitted(band: Band, i: usize, logs: Logs) -> Answer
+    requires { ⌜ FittedReady band i (logs .y) (logs .z) ⌝ }
+    ensures { λ r. ⌜ held r ≡ fittedBy chosen temperatureRule (kelvinBy chosen) (stripOf (logs .y)) logs ⌝ }
+{
+    let y = logs.y;
+    let z = logs.z;
+    match bands::strip_of(y) {
+        Strip::Clear => {
+            let e = temperature_fit::fit_at(band, i, y, z);
+            unjoined(logs, e)
+        }
+        Strip::Between(a, b) => temperature_join::joined(logs, a, b),
+    }
+}
+
 // A temperature's answer from its logarithms.
 fn temperature_from(p: u64, d: u64, logs: Logs) -> Answer
     requires { ⌜ TemperatureReady p d logs ⌝ }
@@ -45,7 +64,7 @@ fn temperature_from(p: u64, d: u64, logs: Logs) -> Answer
             let value = perfect::perfect_gas(p, d) as i64;
             answers::shown(b'T', logs, Edges::Unfitted, Ends::Unjoined, value)
         }
-        Region::Fitted(band, i) => unjoined(logs, temperature_fit::fit_at(band, i, y, z)),
+        Region::Fitted(band, i) => fitted(band, i, logs),
     }
 }
 

@@ -1,11 +1,11 @@
 -- What the fit at a place may take for granted.
-use Prim.Native.Nat.{ℕ, _≤_, _<_}
-use lib.IntN.{ℤ, natAbs}
+use Prim.Native.Nat.{ℕ, _<_}
+use lib.IntN.{ℤ}
 use Rattle.bands.specs.declared.Band.{Band}
 use Rattle.bands.specs.Region.{pieceCount}
+use Rattle.air.specs.Ready.{PlaceReady}
 
 -- a band's piece, at a Y and a Z of the fitted plane
 pub record PieceReady (b : Band) (i : ℕ) (y z : ℤ) : Type 0 where
   pub piece : i < pieceCount b
-  pub y-most : natAbs y ≤ 7000000
-  pub z-most : natAbs z ≤ 3000000
+  pub place : PlaceReady y z

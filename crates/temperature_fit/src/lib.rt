@@ -1,10 +1,12 @@
 // A temperature's fit at a place: G and W, whether 13 refuses it, and the temperature that it makes.
 use bands::Band;
 use fit::Edge;
-ghost use mathlib.Core.Bool.{false};
+ghost use mathlib.Core.Bool.{false, _||_};
 ghost use mathlib.Core.Path.{_≡_};
+ghost use Rattle.bands.specs.Region.{temperatureIndex};
 ghost use Rattle.tgas1_temperature.specs.Pieces.{temperaturePiece};
 ghost use Rattle.air.specs.Places.{edgeBy};
+ghost use Rattle.air.specs.Ready.{PlaceReady};
 ghost use Rattle.air.specs.Temperature.{beyondFit};
 ghost use Rattle.air.specs.Choices.{chosen};
 ghost use Rattle.air.specs.State.{kelvinBy};
@@ -18,6 +20,15 @@ pub fn fit_at(band: Band, i: usize, y: i64, z: i64) -> Edge
     fit::edge_at(tgas1_temperature::piece(band, i), y, z)
 }
 
+// The fit of a band's piece that Z chooses.
+pub fn fit_in(band: Band, y: i64, z: i64) -> Edge
+    requires { ⌜ PlaceReady y z ⌝ }
+    ensures { λ r. ⌜ r ≡ edgeBy chosen (temperaturePiece band (temperatureIndex band z)) y z ⌝ }
+{
+    let i = bands::piece_index(band, z);
+    fit_at(band, i, y, z)
+}
+
 // Whether a fit gets 13.
 pub fn is_beyond(fit: i64) -> bool
     ensures { λ r. ⌜ r ≡ beyondFit fit ⌝ }
@@ -26,6 +37,16 @@ pub fn is_beyond(fit: i64) -> bool
         return true;
     }
     19600000000 < fit
+}
+
+// Whether one of two fits does.
+pub fn is_either_beyond(low: i64, high: i64) -> bool
+    ensures { λ r. ⌜ r ≡ (beyondFit low || beyondFit high) ⌝ }
+{
+    if is_beyond(low) {
+        return true;
+    }
+    is_beyond(high)
 }
 
 // The temperature of a fit that does not.

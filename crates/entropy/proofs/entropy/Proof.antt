@@ -19,7 +19,7 @@ use Rattle.air.specs.Choices.{chosen}
 use Rattle.air.specs.State.{entropyLogs}
 use Rattle.air.proofs.Tests.{at-least}
 use Rattle.air.proofs.Allowed.{lawful, entropy-logs, first-refused, second-refused, both-in-range}
-use Rattle.entropy_fit.specs.Ready.{PlaceReady}
+use Rattle.air.specs.Ready.{PlaceReady}
 use Rattle.entropy.proofs.Laws.{place-ready}
 use Rattle.entropy.proofs.entropy.Statement.{statement}
 use Rattle.entropy.proofs.entropy.Tie as tie

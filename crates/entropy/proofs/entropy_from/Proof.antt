@@ -5,7 +5,7 @@ use Rattle.integer.proofs.Machine.{back}
 use Rattle.bands.specs.declared.Strip.{Strip}
 use Rattle.bands.specs.Bands.{stripOf}
 use Rattle.air.specs.Entropy.{entropyIn}
-use Rattle.entropy.proofs.Laws.{strip-ready}
+use Rattle.air.proofs.Strips.{strip-ready}
 use Rattle.entropy.proofs.entropy_from.Statement.{statement}
 use Rattle.entropy.proofs.entropy_from.Tie as tie
 use Rattle.entropy.proofs.entropy_from.Reads as reads

@@ -12,7 +12,7 @@ use Rattle.integer.specs.Laws.{abs-is, abs-by}
 use Rattle.integer.proofs.Machine.{back, fits64}
 use Rattle.air.specs.Entropy.{rise}
 use Rattle.air.proofs.Sizes.{rise-in}
-use Rattle.entropy_fit.specs.Ready.{PlaceReady}
+use Rattle.air.specs.Ready.{PlaceReady}
 use Rattle.entropy_fit.proofs.rise.Statement.{statement}
 use Rattle.entropy_fit.proofs.rise.Tie as tie
 

@@ -1,5 +1,5 @@
 -- `flat::high_value` is that edge's value, or 0.
-use mathlib.Core.Path.{sym, ap}
+use mathlib.Core.Path.{sym, ap, _∙_}
 use Rattle.integer.proofs.Machine.{back}
 use Rattle.flat.specs.Flat.{highValue}
 use borrow.Author.Needs.{needs}
@@ -20,7 +20,7 @@ returns c = sym (ap highValue (c .enum-told .given .1))
 returns-2 : tie.Need-returns-2
 returns-2 c =
     let g = c .before .ends .given .0 in
-    rw (back {z = g .1 .0} (search needs)) (sym (ap highValue (c .before .ends .given .1)))
+    back {z = g .1 .0} (search needs) ∙ sym (ap highValue (c .before .ends .given .1))
 
 pub high-value-spec : {M : Type 1} → statement M
 high-value-spec = tie.close (tie.spec enum-told enum-known-ends returns returns-2)

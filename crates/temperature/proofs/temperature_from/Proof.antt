@@ -1,6 +1,6 @@
 -- `temperature::temperature_from` follows the region of Y and Z.
-use mathlib.Core.Path.{_≡_, sym, ap, ap₂, _∙_}
-use Prim.Native.Nat.{ℕ, _^_, _<_}
+use mathlib.Core.Path.{_≡_, sym, ap, _∙_}
+use Prim.Native.Nat.{_^_, _<_}
 use native.Mathlib.Omega.{arith}
 use borrow.Author.Needs.{needs}
 use mir.Syntax.{w64}
@@ -8,16 +8,11 @@ use mir.Facts.{toZ-pos}
 use Rattle.integer.proofs.Machine.{back}
 use Rattle.bands.specs.declared.Region.{Region}
 use Rattle.bands.specs.Region.{regionOf}
-use Rattle.bands.specs.declared.Band.{Band}
-use Rattle.tgas1_temperature.specs.Pieces.{temperaturePiece}
-use Rattle.bands.proofs.Regions.{perfect-region, IsFitted, fitted-region}
+use Rattle.bands.proofs.Regions.{perfect-region, fitted-region}
 use Rattle.perfect.specs.Perfect.{Dividable}
 use Rattle.perfect.proofs.Quotient.{perfect-small}
 use Rattle.air.specs.Choices.{chosen}
-use Rattle.air.specs.Places.{edgeBy, pointOf, pointBy}
-use Rattle.air.specs.Temperature.{pieceAt, temperatureRule}
-use Rattle.air.specs.State.{kelvinBy, temperatureAt, temperatureBy}
-use Rattle.air.proofs.Places.{own-place}
+use Rattle.air.specs.State.{temperatureAt, temperatureBy}
 use Rattle.air.proofs.Claims.{y-most}
 use Rattle.temperature.proofs.Laws.{window-most, dividable}
 use Rattle.temperature.proofs.temperature_from.Statement.{statement}
@@ -65,33 +60,17 @@ shown-requires c κs = search needs
 enum-known-band : tie.Need-enum-known-band
 enum-known-band c = search needs
 
--- the piece that Y and Z choose
-piece : (c : tie.After-band) → let s = c .before .before .before .before .before in
-    IsFitted (s .args .logs .y) (s .args .logs .z) (c .band .given .0 .0) (c .band .given .0 .1 .0)
-piece c =
-    let a = c .before .before in
-    let l = a .before .before .before .args .logs in
-    fitted-region (l .y) (l .z) (sym (region a) ∙ c .band .given .1)
-
-fit-at-requires : tie.Need-fit-at-requires
-fit-at-requires c κs =
-    let s = c .before .before .before .before .before .before in
+fitted-requires : tie.Need-fitted-requires
+fitted-requires c κs =
+    let a = c .before .before .before in
+    let s = a .before .before .before in
     let l = s .args .logs in
-    let f = piece (c .before) in
-    rw (back {z = l .y} (search needs), back {z = l .z} (search needs))
-    (record { piece = f .piece; y-most = y-most (s .args .d) (l .y) (s .pre .density) (s .pre .taken .y); z-most = window-most (l .z) (f .window) })
-
--- its fit
-edge : (c : tie.After-fit-at) → let l = c .before .before .before .before .before .before .before .args .logs in
-    c .fit-at .result ≡ edgeBy chosen (pieceAt (l .y) (l .z)) (l .y) (l .z)
-edge c =
-    let l = c .before .before .before .before .before .before .before .args .logs in
-    let f = piece (c .before .before) in
-    (rw (back {z = l .y} (search needs), back {z = l .z} (search needs)) at (c .fit-at .ensures))
-    ∙ ap₂ (λ (b : Band) (i : ℕ). edgeBy chosen (temperaturePiece b i) (l .y) (l .z)) (f .band) (f .index)
-
-unjoined-requires : tie.Need-unjoined-requires
-unjoined-requires c κs = search needs
+    let f = fitted-region (l .y) (l .z) (sym (region a) ∙ c .before .band .given .1) in
+    record {
+      ready = record { piece = f .piece; place = record { y-most = y-most (s .args .d) (l .y) (s .pre .density) (s .pre .taken .y); z-most = omega (arith, window-most (l .z) (f .window)) } };
+      band = f .band;
+      index = f .index;
+    }
 
 returns : tie.Need-returns
 unfolding temperatureBy
@@ -112,13 +91,10 @@ returns-2 c =
 returns-3 : tie.Need-returns-3
 unfolding temperatureBy
 returns-3 c =
-    let e = c .before in
-    let a = e .before .before .before .before in
+    let a = c .before .before .before .before in
     let s = a .before .before .before in
-    let l = s .args .logs in
-    c .unjoined .ensures
-    ∙ own-place temperatureRule l (pointBy chosen temperatureRule (kelvinBy chosen) (l .z)) (ap (pointOf (kelvinBy chosen)) (edge e))
-    ∙ sym (ap (λ (r : Region). temperatureAt chosen r (s .args .p) (s .args .d) l) (sym (region a) ∙ e .before .before .band .given .1))
+    c .fitted .ensures
+    ∙ sym (ap (λ (r : Region). temperatureAt chosen r (s .args .p) (s .args .d) (s .args .logs)) (sym (region a) ∙ c .before .before .band .given .1))
 
 pub temperature-from-spec : {M : Type 1} → statement M
 temperature-from-spec =
@@ -132,8 +108,7 @@ temperature-from-spec =
     cast-value
     shown-requires
     enum-known-band
-    fit-at-requires
-    unjoined-requires
+    fitted-requires
     returns
     returns-2
     returns-3)

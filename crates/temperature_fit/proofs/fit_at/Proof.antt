@@ -28,8 +28,8 @@ edge-at-requires : tie.Need-edge-at-requires
 edge-at-requires c κs =
     let s = c .before in
     rw (c .piece .ensures)
-    (workable (piece-small (s .args .band) (s .args .i)) (in-back (s .fits .y) (in-23 (s .args .y) (s .pre .y-most)))
-    (in-back (s .fits .z) (in-23 (s .args .z) (omega (arith, s .pre .z-most)))))
+    (workable (piece-small (s .args .band) (s .args .i)) (in-back (s .fits .y) (in-23 (s .args .y) (s .pre .place .y-most)))
+    (in-back (s .fits .z) (in-23 (s .args .z) (omega (arith, s .pre .place .z-most)))))
 
 pub fit-at-spec : {M : Type 1} → statement M
 fit-at-spec = tie.close (tie.spec piece-requires edge-at-requires returns)
