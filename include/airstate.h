@@ -14,9 +14,9 @@
  * 101,330 Pa, z = x - y for a temperature, z of the energy over 78,408.4 J/kg for an entropy.
  *
  * The fits have three density bands, which meet at y = -4,500,000 and y = -500,000. Strictly within 25,000 of the first
- * edge and 5,000 of the second a value is joined: it lies on the straight line, rounded down, between the values at both
- * ends of that strip, each worked out with the state's own z in the band of its own y. So a plot has no step there. An
- * entropy is joined at every z, a temperature where its z is above 250,000; below, the gas is perfect.
+ * edge and 5,000 of the second a value is joined: it lies on the straight line, rounded down, between the values at
+ * both ends of that strip, each worked out with the state's own z in the band of its own y. So a plot has no step
+ * there. An entropy is joined at every z, a temperature where its z is above 250,000; up to that the gas is perfect.
  *
  * A byte sequence is a pointer and a length; a null pointer is allowed where the length is 0. A buffer that is lent for
  * writing overlaps no other argument. A refusal changes no byte of it; a success writes a prefix.
