@@ -36,15 +36,15 @@ fn unjoined(logs: Logs, e: Edge) -> Answer
 }
 
 // The answer of the piece that Y and Z choose, or of a strip's edges.
-fn fitted(band: Band, i: usize, logs: Logs) -> Answer
-    requires { ⌜ FittedReady band i (logs .y) (logs .z) ⌝ }
+fn fitted(band: Band, logs: Logs) -> Answer
+    requires { ⌜ FittedReady band (logs .y) (logs .z) ⌝ }
     ensures { λ r. ⌜ held r ≡ fittedBy chosen temperatureRule (kelvinBy chosen) (stripOf (logs .y)) logs ⌝ }
 {
     let y = logs.y;
     let z = logs.z;
     match bands::strip_of(y) {
         Strip::Clear => {
-            let e = temperature_fit::fit_at(band, i, y, z);
+            let e = temperature_fit::fit_in(band, y, z);
             unjoined(logs, e)
         }
         Strip::Between(a, b) => temperature_join::joined(logs, a, b),
@@ -64,7 +64,7 @@ fn temperature_from(p: u64, d: u64, logs: Logs) -> Answer
             let value = perfect::perfect_gas(p, d) as i64;
             answers::shown(b'T', logs, Edges::Unfitted, Ends::Unjoined, value)
         }
-        Region::Fitted(band, i) => fitted(band, i, logs),
+        Region::Fitted(band, _) => fitted(band, logs),
     }
 }
 

@@ -10,15 +10,6 @@ ghost use Rattle.air.specs.Ready.{PlaceReady};
 ghost use Rattle.air.specs.Temperature.{beyondFit};
 ghost use Rattle.air.specs.Choices.{chosen};
 ghost use Rattle.air.specs.State.{kelvinBy};
-ghost use Rattle.temperature_fit.specs.Ready.{PieceReady};
-
-// The fit of a band's i-th piece at Y and Z.
-pub fn fit_at(band: Band, i: usize, y: i64, z: i64) -> Edge
-    requires { ⌜ PieceReady band i y z ⌝ }
-    ensures { λ r. ⌜ r ≡ edgeBy chosen (temperaturePiece band i) y z ⌝ }
-{
-    fit::edge_at(tgas1_temperature::piece(band, i), y, z)
-}
 
 // The fit of a band's piece that Z chooses.
 pub fn fit_in(band: Band, y: i64, z: i64) -> Edge
@@ -26,7 +17,7 @@ pub fn fit_in(band: Band, y: i64, z: i64) -> Edge
     ensures { λ r. ⌜ r ≡ edgeBy chosen (temperaturePiece band (temperatureIndex band z)) y z ⌝ }
 {
     let i = bands::piece_index(band, z);
-    fit_at(band, i, y, z)
+    fit::edge_at(tgas1_temperature::piece(band, i), y, z)
 }
 
 // Whether a fit gets 13.

@@ -1,11 +1,11 @@
 -- `temperature::fitted` follows the strip of Y.
-use mathlib.Core.Path.{_≡_, sym, ap, ap₂, _∙_}
-use Prim.Native.Nat.{ℕ}
+use mathlib.Core.Path.{_≡_, sym, ap, _∙_}
 use borrow.Author.Needs.{needs}
 use Rattle.integer.proofs.Machine.{back}
 use Rattle.bands.specs.declared.Band.{Band}
 use Rattle.bands.specs.declared.Strip.{Strip}
 use Rattle.bands.specs.Bands.{stripOf}
+use Rattle.bands.specs.Region.{temperatureIndex}
 use Rattle.tgas1_temperature.specs.Pieces.{temperaturePiece}
 use Rattle.air.specs.Choices.{chosen}
 use Rattle.air.specs.Places.{edgeBy, pointOf, pointBy, fittedBy}
@@ -25,10 +25,10 @@ strip c = rw (back {z = c .before .before .before .args .logs .y} (search needs)
 enum-told : tie.Need-enum-told
 enum-told c = search needs
 
-fit-at-requires : tie.Need-fit-at-requires
-fit-at-requires c κs =
+fit-in-requires : tie.Need-fit-in-requires
+fit-in-requires c κs =
     let s = c .before .before .before .before .before in
-    rw (back {z = s .args .logs .y} (search needs), back {z = s .args .logs .z} (search needs)) (s .pre .ready)
+    rw (back {z = s .args .logs .y} (search needs), back {z = s .args .logs .z} (search needs)) (s .pre .place)
 
 unjoined-requires : tie.Need-unjoined-requires
 unjoined-requires c κs = search needs
@@ -42,16 +42,16 @@ joined-requires c κs =
     let s = a .before .before .before in
     let g = c .before .a .given .0 in
     rw (back {z = g .0} (search needs), back {z = g .1 .0} (search needs))
-    (strip-ready (s .args .logs .y) (s .args .logs .z) (s .pre .ready .place .z-most) (sym (strip a) ∙ c .before .a .given .1))
+    (strip-ready (s .args .logs .y) (s .args .logs .z) (s .pre .place .z-most) (sym (strip a) ∙ c .before .a .given .1))
 
 -- the fit at the state's own place
-edge : (c : tie.After-fit-at) → let l = c .before .before .before .before .before .before .args .logs in
-    c .fit-at .result ≡ edgeBy chosen (pieceAt (l .y) (l .z)) (l .y) (l .z)
+edge : (c : tie.After-fit-in) → let l = c .before .before .before .before .before .before .args .logs in
+    c .fit-in .result ≡ edgeBy chosen (pieceAt (l .y) (l .z)) (l .y) (l .z)
 edge c =
     let s = c .before .before .before .before .before .before in
     let l = s .args .logs in
-    (rw (back {z = l .y} (search needs), back {z = l .z} (search needs)) at (c .fit-at .ensures))
-    ∙ ap₂ (λ (b : Band) (i : ℕ). edgeBy chosen (temperaturePiece b i) (l .y) (l .z)) (s .pre .band) (s .pre .index)
+    (rw (back {z = l .y} (search needs), back {z = l .z} (search needs)) at (c .fit-in .ensures))
+    ∙ ap (λ (b : Band). edgeBy chosen (temperaturePiece b (temperatureIndex b (l .z))) (l .y) (l .z)) (s .pre .band)
 
 returns : tie.Need-returns
 returns c =
@@ -72,4 +72,4 @@ returns-2 c =
     ∙ sym (ap (λ (x : Strip). fittedBy chosen temperatureRule (kelvinBy chosen) x l) (sym (strip a) ∙ c .before .before .a .given .1))
 
 pub fitted-spec : {M : Type 1} → statement M
-fitted-spec = tie.close (tie.spec strip-of-requires enum-told fit-at-requires unjoined-requires enum-known-a joined-requires returns returns-2)
+fitted-spec = tie.close (tie.spec strip-of-requires enum-told fit-in-requires unjoined-requires enum-known-a joined-requires returns returns-2)

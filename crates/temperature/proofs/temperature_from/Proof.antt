@@ -66,11 +66,7 @@ fitted-requires c κs =
     let s = a .before .before .before in
     let l = s .args .logs in
     let f = fitted-region (l .y) (l .z) (sym (region a) ∙ c .before .band .given .1) in
-    record {
-      ready = record { piece = f .piece; place = record { y-most = y-most (s .args .d) (l .y) (s .pre .density) (s .pre .taken .y); z-most = omega (arith, window-most (l .z) (f .window)) } };
-      band = f .band;
-      index = f .index;
-    }
+    record { place = record { y-most = y-most (s .args .d) (l .y) (s .pre .density) (s .pre .taken .y); z-most = omega (arith, window-most (l .z) (f .window)) }; band = f .band }
 
 returns : tie.Need-returns
 unfolding temperatureBy

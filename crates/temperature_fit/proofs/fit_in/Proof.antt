@@ -1,13 +1,18 @@
 -- `temperature_fit::fit_in` is the fit of the piece that Z chooses.
 use mathlib.Core.Path.{_≡_, ap, _∙_}
-use Prim.Native.Nat.{ℕ}
+use native.Mathlib.Omega.{arith}
 use borrow.Author.Needs.{needs}
 use Rattle.integer.proofs.Machine.{back}
+use Rattle.weight.specs.Choice.{weightOf}
+use Rattle.quotient.proofs.Machine.{in-back}
+use Rattle.fit.specs.Fit.{Piece}
+use Rattle.fit.specs.Edge.{edgeWith}
+use Rattle.fit.proofs.Pieces.{workable}
 use Rattle.bands.specs.Region.{temperatureIndex}
 use Rattle.bands.proofs.Index.{index-is-piece}
 use Rattle.tgas1_temperature.specs.Pieces.{temperaturePiece}
-use Rattle.air.specs.Choices.{chosen}
-use Rattle.air.specs.Places.{edgeBy}
+use Rattle.tgas1_temperature.proofs.Pieces.{piece-small}
+use Rattle.air.proofs.Sizes.{in-23}
 use Rattle.temperature_fit.proofs.fit_in.Statement.{statement}
 use Rattle.temperature_fit.proofs.fit_in.Tie as tie
 
@@ -17,16 +22,24 @@ piece-index-requires c κs = search needs
 index : (c : tie.After-piece-index) → c .piece-index .result ≡ temperatureIndex (c .before .args .band) (c .before .args .z)
 index c = rw (back (c .before .fits .z)) at (c .piece-index .ensures)
 
-fit-at-requires : tie.Need-fit-at-requires
-fit-at-requires c κs =
-    let s = c .before in
-    rw (back (s .fits .y), back (s .fits .z)) (record { piece = rw (index c) (index-is-piece (s .args .band) (s .args .z)); place = s .pre })
-
 returns : tie.Need-returns
 returns c =
+    let p = c .before in
+    let s = p .before .before in
+    let y = s .args .y in
+    let z = s .args .z in
+    (rw (back (s .fits .y), back (s .fits .z)) at (c .edge-at .ensures))
+    ∙ ap (λ (k : Piece). edgeWith weightOf k y z) (p .piece .ensures ∙ ap (temperaturePiece (s .args .band)) (index (p .before)))
+
+piece-requires : tie.Need-piece-requires
+piece-requires c κs = rw (index c) (index-is-piece (c .before .args .band) (c .before .args .z))
+
+edge-at-requires : tie.Need-edge-at-requires
+edge-at-requires c κs =
     let s = c .before .before in
-    (rw (back (s .fits .y), back (s .fits .z)) at (c .fit-at .ensures))
-    ∙ ap (λ (i : ℕ). edgeBy chosen (temperaturePiece (s .args .band) i) (s .args .y) (s .args .z)) (index (c .before))
+    rw (c .piece .ensures)
+    (workable (piece-small (s .args .band) (c .before .piece-index .result)) (in-back (s .fits .y) (in-23 (s .args .y) (s .pre .y-most)))
+    (in-back (s .fits .z) (in-23 (s .args .z) (omega (arith, s .pre .z-most)))))
 
 pub fit-in-spec : {M : Type 1} → statement M
-fit-in-spec = tie.close (tie.spec piece-index-requires fit-at-requires returns)
+fit-in-spec = tie.close (tie.spec piece-index-requires piece-requires edge-at-requires returns)
