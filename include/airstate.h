@@ -36,8 +36,8 @@ extern "C" {
 /* The version of this header. The library has the same soname as long as the first number stays. */
 #define EAS_VERSION_MAJOR 2
 #define EAS_VERSION_MINOR 1
-#define EAS_VERSION_PATCH 0
-#define EAS_VERSION "2.1.0"
+#define EAS_VERSION_PATCH 1
+#define EAS_VERSION "2.1.1"
 
 /* Whether this header is of a version or a later one: #if !EAS_VERSION_AT_LEAST(2, 0, 0) ... #error */
 #define EAS_VERSION_AT_LEAST(major, minor, patch)                                                                      \

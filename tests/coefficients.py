@@ -1,13 +1,18 @@
-"""Compares every number of the listing crates' tables, in specs/ and in src/, with tests/listing/*.txt: the numerals as
-source document 000 prints them, by label and name. A number that differs, is missing or stands elsewhere fails."""
+"""Compares every number of the listing crates' tables, in specs/ and packed in src/, with tests/listing/*.txt: the numerals as
+source document 000 prints them, by label and name. A number that differs, is missing or stands elsewhere fails, and so does a
+packed block that is not lent once, is not as small as it can be or is not as tests/listing/pack.py prints it."""
 
 import re
+import subprocess
 import sys
 from decimal import ROUND_HALF_UP, Decimal
 from pathlib import Path
 
 ROOT = Path(__file__).resolve().parent.parent
 CRATES = ROOT / "crates"
+sys.dont_write_bytecode = True
+sys.path.insert(0, str(ROOT / "tests" / "listing"))
+import blocks
 
 # each listing's crate and the file of its tables in specs/; the bands' own crate has the ends
 TABLES = {"temperature": ("tgas1_temperature", "Pieces.antt"), "entropy": ("tgas2_entropy", "Entropy.antt")}
@@ -16,6 +21,9 @@ TABLES = {"temperature": ("tgas1_temperature", "Pieces.antt"), "entropy": ("tgas
 TEMPERATURE = {"low": (310, 320, 330, 340), "middle": (360, 370, 380, 390), "high": (410, 420, 430)}
 ENTROPY = {"low": 80, "middle": 90, "high": 100}
 FIRST, SECOND, TERMS = ("GAS1", "GAS2", "GAS3", "GAS4"), ("GAS5", "GAS6", "GAS7", "GAS8"), ("GAS9",)
+
+# each listing's packed bytes: one for each number, and four or eight
+SIZES = {"temperature": 1654, "entropy": 234}
 
 
 def printed(file):
@@ -49,24 +57,47 @@ def spec_lists(kind):
 
 
 def code_lists(kind):
-    """name of the definition that a function ensures, to the numbers that it returns"""
-    file = CRATES / TABLES[kind][0] / "src" / "lib.rt"
-    text = file.read_text()
-    lists = {}
-
-    def take(name, body, length):
-        lists[name] = [int(n.replace("_", "")) for n in re.findall(r"-?\d[\d_]*", body)]
-        if len(lists[name]) != length:
-            sys.exit(f"{file}: {name} has {len(lists[name])} numbers")
-
-    for length, name, body in re.findall(r"fn \w+\(\) -> \[i64; (\d+)\]\n    ensures \{ λ r\. ⌜ r ≡ (\S+) ⌝ \}\n\{\n    \[([^\]]*)\]", text):
-        take(name, body, int(length))
-    # a piece: the names of its lists stand in its ensures, in the order of the fields
-    for names, body in re.findall(r"fn \w+\(\) -> Coefficients\n    ensures \{ λ r\. ⌜ pieceOf r ≡ ([^⌝]*) ⌝ \}\n\{\n((?: .*\n)*)\}", text):
-        fields = re.findall(r"(first|second|terms): \[([^\];]*)\]", body)
-        for name, (field, numbers) in zip(re.findall(r"\w+-[ABq]\b", names), fields, strict=True):
-            take(name, numbers, 4 if field == "terms" else 10)
+    """name of a definition that a function ensures, to the numbers of the block that it lends for it; every array is lent once"""
+    source = CRATES / TABLES[kind][0] / "src"
+    text, arrays = (source / "lib.rt").read_text(), blocks.arrays(source / "blocks.rt")
+    lists, lent = {}, []
+    function = r"^fn .*\n    requires .*\n    ensures \{ λ r\. ⌜ r ≡ (.*) ⌝ \}\n\{\n((?: .*\n)*)\}"
+    for ensured, body in re.findall(function, text, re.M):
+        names, lends = re.findall(r"\w+-[ABqn]\b", ensured), re.findall(r"&blocks::(\w+)", body)
+        for name, places, words in zip(names, lends[::2], lends[1::2], strict=True):
+            same(f"{source}: the block of {name}", (name in lists, arrays[places][0], arrays[words][0]), (False, "u8", "i32"))
+            lists[name] = blocks.numbers(arrays[places][1], arrays[words][1])
+        lent += lends
+    same(f"{source}: the arrays that are lent", sorted(lent), sorted(arrays))
+    same(f"{source}: the places that name one", len(re.findall(r"\bblocks::", text)), len(lent))
     return lists
+
+
+def tight(what, places, words):
+    """how many words: the numbers' in order, two only where 32 bits do not hold a number with its sign, and zeros behind them"""
+    at = 0
+    for place, number in zip(places, blocks.numbers(places, words), strict=True):
+        wide = number not in range(-(2**31), 2**31)
+        same(f"{what}: the byte of {number}", place, 2 * at + wide)
+        at += 1 + wide
+    same(f"{what}: the words that no byte finds", words[at:], [0] * (len(words) - at))
+    return at
+
+
+def packing():
+    """every block is as small as it can be, an array only as long as the longest of its kind needs"""
+    needed, lengths = {}, {}
+    for kind, (crate, _) in TABLES.items():
+        file, size = CRATES / crate / "src" / "blocks.rt", 0
+        for name, (places, words) in blocks.blocks(file).items():
+            count = tight(f"{file}: {name}", places, words)
+            size += len(places) + 4 * count
+            needed[len(places)] = max(count, needed.get(len(places), 0))
+            lengths.setdefault(len(places), set()).add(len(words))
+        same(f"{file}: bytes of all numbers", size, SIZES[kind])
+        pack = subprocess.run([sys.executable, ROOT / "tests" / "listing" / "pack.py", kind], capture_output=True, check=True)
+        same(f"{file}: as pack.py prints it", file.read_bytes() == pack.stdout, True)
+    same("lengths of the arrays of words", lengths, {numbers: {count} for numbers, count in needed.items()})
 
 
 def wanted(temperature, entropy):
@@ -116,7 +147,8 @@ def main():
         same(f"{where}: the tables' names", sorted(have), sorted(lists))
         for key, numbers in lists.items():
             same(f"{where}: {' '.join(key)}", have[key], numbers)
-    print(f"{sum(map(len, lists.values()))} coefficients agree")
+    packing()
+    print(f"{sum(map(len, lists.values()))} coefficients agree, packed in {sum(SIZES.values())} bytes")
 
 
 main()

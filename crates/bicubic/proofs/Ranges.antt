@@ -69,8 +69,8 @@ module _ {c y z : ℤ} (hc : In 44 c) (hy : In 25 y) (hz : In 25 z) where
   exponent-size ha hb hd = within 57 tt (upto-plus (sum-upto ha hb hd hy hz) cross-upto)
 
 -- ---- what callers know of the result, for |Y|, |Z| below 2^23; wider boxes go by the coefficients' own sizes (`bicubic-size`)
-pub bicubic-in : {k : List ℤ} {y z : ℤ} → AllIn 44 k → In 23 y → In 23 z → In 57 (bicubic k y z)
+pub bicubic-in : {k : List ℤ} {y z : ℤ} → AllIn 43 k → In 23 y → In 23 z → In 57 (bicubic k y z)
 unfolding size
 bicubic-in {k} {y} {z} h hy hz =
     within 57 tt
-    (record { most = bicubic-size-all (2 ^ 23) (2 ^ 23) y z (le-of-lt (hy .size)) (le-of-lt (hz .size)) k (2 ^ 44) (λ i. le-of-lt (all-at h i .size)) })
+    (record { most = bicubic-size-all (2 ^ 23) (2 ^ 23) y z (le-of-lt (hy .size)) (le-of-lt (hz .size)) k (2 ^ 43) (λ i. le-of-lt (all-at h i .size)) })

@@ -1,5 +1,8 @@
-// Bicubics and exponents of a fit in 64 bits: each product a mul, from left to right.
+// Bicubics and exponents of a fit in 64 bits: each product a mul, from left to right. A coefficient of a bicubic is
+// small; a term of an exponent is seldom so small that a test for it would pay.
 use quotient::mul;
+use quotient::mul_small;
+use quotient::mul_wide;
 ghost use mathlib.Core.Path.{_≡_};
 ghost use lib.IntN.{_+ℤ_};
 ghost use Rattle.quotient.specs.Range.{In, AllIn};
@@ -8,15 +11,15 @@ ghost use Rattle.bicubic.specs.Bicubic.{bicubic, exponent};
 
 // a + bY.
 fn linear(a: i64, b: i64, y: i64) -> i64
-    requires { ⌜ (In 44 a) × ((In 44 b) × (In 25 y)) ⌝ }
+    requires { ⌜ (In 43 a) × ((In 43 b) × (In 25 y)) ⌝ }
     ensures { λ r. ⌜ r ≡ a +ℤ mul b y ⌝ }
 {
-    a + mul(b, y)
+    a + mul_small(b, y)
 }
 
 // (a + bY)Z.
 fn linear_by(a: i64, b: i64, y: i64, z: i64) -> i64
-    requires { ⌜ (In 44 a) × ((In 44 b) × ((In 25 y) × (In 25 z))) ⌝ }
+    requires { ⌜ (In 43 a) × ((In 43 b) × ((In 25 y) × (In 25 z))) ⌝ }
     ensures { λ r. ⌜ r ≡ mul (a +ℤ mul b y) z ⌝ }
 {
     mul(linear(a, b, y), z)
@@ -24,15 +27,15 @@ fn linear_by(a: i64, b: i64, y: i64, z: i64) -> i64
 
 // (a + bY + cZ)ZZ.
 fn linear_by_square(a: i64, b: i64, c: i64, y: i64, z: i64) -> i64
-    requires { ⌜ (In 44 a) × ((In 44 b) × ((In 44 c) × ((In 25 y) × (In 25 z)))) ⌝ }
+    requires { ⌜ (In 43 a) × ((In 43 b) × ((In 43 c) × ((In 25 y) × (In 25 z)))) ⌝ }
     ensures { λ r. ⌜ r ≡ mul (mul (a +ℤ mul b y +ℤ mul c z) z) z ⌝ }
 {
-    mul(mul(linear(a, b, y) + mul(c, z), z), z)
+    mul(mul(linear(a, b, y) + mul_small(c, z), z), z)
 }
 
 // The bicubic of ten coefficients.
 pub fn bicubic(k: [i64; 10], y: i64, z: i64) -> i64
-    requires { ⌜ (AllIn 44 k) × ((In 25 y) × (In 25 z)) ⌝ }
+    requires { ⌜ (AllIn 43 k) × ((In 25 y) × (In 25 z)) ⌝ }
     ensures { λ r. ⌜ r ≡ bicubic k y z ⌝ }
 {
     linear(k[0], k[1], y)
@@ -46,5 +49,5 @@ pub fn exponent(c: [i64; 4], y: i64, z: i64) -> i64
     requires { ⌜ (AllIn 44 c) × ((In 25 y) × (In 25 z)) ⌝ }
     ensures { λ r. ⌜ r ≡ exponent c y z ⌝ }
 {
-    linear(c[0], c[1], y) + mul(c[2], z) + mul(mul(c[3], y), z)
+    c[0] + mul_wide(c[1], y) + mul_wide(c[2], z) + mul_wide(mul_wide(c[3], y), z)
 }

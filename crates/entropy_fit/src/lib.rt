@@ -20,7 +20,7 @@ pub fn entropy_at(y: i64, z: i64) -> i64
         return 67792004 + proportion::entropy_rise(rise(y, z));
     }
     let band = bands::band_of(y);
-    proportion::entropy_of_fit(bicubic::bicubic(tgas2_entropy::entropy_bicubic(band), y, z))
+    proportion::entropy_of_fit(tgas2_entropy::entropy_bicubic(band, y, z))
 }
 
 // Whether Z is above the limit of the band of Y.

@@ -1,22 +1,19 @@
--- A piece as the code holds it, and its fit at a Y and a Z.
+-- The fit of a piece at a Y and a Z, and where the code takes it.
 use mathlib.Core.List.{List}
+use Prim.Native.Nat.{ℕ}
 use lib.IntN.{ℤ, pos}
-use Rattle.fit.specs.declared.Form.{Form}
-use Rattle.fit.specs.declared.Form.the-variants.{Alone, Joint}
-use Rattle.fit.specs.declared.Coefficients.{Coefficients}
 use Rattle.fit.specs.declared.Edge.{Edge}
 use Rattle.quotient.specs.Range.{In, AllIn}
+use Rattle.packed.specs.Packed.{unpacked}
 use Rattle.bicubic.specs.Bicubic.{bicubic, exponent}
 use Rattle.fit.specs.Fit.{Piece, alone, joint, firstOf, secondOf, termsOf, fitted}
 
--- the piece of a form over its lists; a form that lacks a list leaves it aside
-abbrev pub formed : Form → List ℤ → List ℤ → List ℤ → Piece
-formed Alone a b q = alone a
-formed Joint a b q = joint a b (record { terms = q })
+-- the piece of packed lists: the bytes and the words of A, of B and of the exponent
+abbrev pub packedAlone : List ℕ → List ℤ → Piece
+packedAlone a aw = alone (unpacked a aw)
 
--- the piece that coefficients stand for
-abbrev pub pieceOf : Coefficients → Piece
-pieceOf c = formed (c .form) (c .first) (c .second) (c .terms)
+abbrev pub packedJoint : List ℕ → List ℤ → List ℕ → List ℤ → List ℕ → List ℤ → Piece
+packedJoint a aw b bw q qw = joint (unpacked a aw) (unpacked b bw) (record { terms = unpacked q qw })
 
 -- W of a piece by a choice of weights: 0 where there is no second bicubic
 abbrev pub weightWith : (ℤ → ℤ) → Piece → ℤ → ℤ → ℤ
@@ -29,8 +26,8 @@ edgeWith f k y z = record { fit = fitted k y z (weightWith f k y z); weight = we
 
 -- coefficients that the code takes
 pub record Small (k : Piece) : Type 0 where
-  pub first : AllIn 44 (firstOf k)
-  pub second : AllIn 44 (secondOf k)
+  pub first : AllIn 43 (firstOf k)
+  pub second : AllIn 43 (secondOf k)
   pub terms : AllIn 44 (termsOf k)
 
 -- a place at which it takes them

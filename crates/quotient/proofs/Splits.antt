@@ -5,7 +5,10 @@ use native.Mathlib.Omega.{arith}
 use lib.Dec.{lt→ltb, lit<}
 use lib.IntN.{ℤ, pos, natAbs, _*ℤ_}
 use lib.Signed.{shrZ}
+use mir.Syntax.{w64}
+use mir.Val.{SFits}
 use Rattle.integer.specs.Laws.{abs-*}
+use Rattle.integer.proofs.Machine.{fits64}
 use Rattle.quotient.specs.Range.{In, Divides, Splits}
 use Rattle.quotient.proofs.Floors.{quotient-mono, quotient-size}
 
@@ -31,10 +34,24 @@ divides-over n m A B a b ha hb hn hm h =
     let p : natAbs (a *ℤ b) ≤ A * B = rw abs-* (mul-le-mul ha hb) in
     divides m (A * B / n + 1) (omega (arith, quotient-size (a *ℤ b) n hn, quotient-mono n hn p)) hm h
 
-pub short-splits : {a b : ℤ} → natAbs a ≤ 8796093022207 → In 25 b → Splits a b (pos 64)
-short-splits h k = splits 64 8796093022207 (2 ^ 25) h (le-of-lt (k .size)) (lit< tt) (lit< tt) (lit< tt) (lit< tt)
+pub short-splits : {a b : ℤ} → In 43 a → In 25 b → Splits a b (pos 64)
+short-splits h k = splits 64 (2 ^ 43) (2 ^ 25) (le-of-lt (h .size)) (le-of-lt (k .size)) (lit< tt) (lit< tt) (lit< tt) (lit< tt)
 
-pub short-divides : {m : ℕ} (a b : ℤ) → natAbs a ≤ 8796093022207 → In 25 b → 0 < m → m ≤ 15625 → Divides (shrZ (a *ℤ b) 64) (pos m)
+pub short-divides : {m : ℕ} (a b : ℤ) → In 43 a → In 25 b → 0 < m → m ≤ 15625 → Divides (shrZ (a *ℤ b) 64) (pos m)
 short-divides {m} a b h k some most =
+    let small : natAbs a ≤ 8796093022207 = omega (arith, h .size) in
     let room : 8796093022207 * 2 ^ 25 / 64 + 1 + 15625 < 2 ^ 62 = lit< tt in
-    divides-over 64 m 8796093022207 (2 ^ 25) a b h (le-of-lt (k .size)) (lit< tt) some (omega (arith, room, most))
+    divides-over 64 m 8796093022207 (2 ^ 25) a b small (le-of-lt (k .size)) (lit< tt) some (omega (arith, room, most))
+
+-- ---- a product at once
+in-43 : {a : ℤ} → In 38 a → In 43 a
+in-43 h = record { size = omega (arith, h .size) }
+
+pub product-fits : (a b : ℤ) → In 38 a → In 25 b → SFits w64 (a *ℤ b)
+product-fits a b h k =
+    let small : natAbs a ≤ 274877906943 = omega (arith, h .size) in
+    let p : natAbs (a *ℤ b) ≤ 274877906943 * 2 ^ 25 = rw abs-* (mul-le-mul small (le-of-lt (k .size))) in
+    fits64 _ (omega (arith, p))
+
+pub once-divides : {m : ℕ} (a b : ℤ) → In 38 a → In 25 b → 0 < m → m ≤ 15625 → Divides (shrZ (a *ℤ b) 64) (pos m)
+once-divides a b h k some most = short-divides a b (in-43 h) k some most

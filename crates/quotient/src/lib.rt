@@ -44,13 +44,37 @@ pub fn mul_short(a: i64, b: i64, k: u32, m: i64, n: i64) -> i64
     floor_div(mul_shift(a, b, k, m), n)
 }
 
-// a * b / 1,000,000. A factor a below 2^43, as nearly all are, takes one quotient: by 64 with shifts, then by 15,625.
+// a * b / 1,000,000 in the shortest way that the size of a allows. Below 2^38: one product, by 64 with a shift, then by 15,625.
+pub fn mul_once(a: i64, b: i64) -> i64
+    requires { ⌜ (In 38 a) × (In 25 b) ⌝ }
+    ensures { λ r. ⌜ r ≡ mul a b ⌝ }
+{
+    floor_div((a * b) >> 6, 15625)
+}
+
+// Below 2^43, as every coefficient of a bicubic is: the same, of a product in two parts.
+pub fn mul_small(a: i64, b: i64) -> i64
+    requires { ⌜ (In 43 a) × (In 25 b) ⌝ }
+    ensures { λ r. ⌜ r ≡ mul a b ⌝ }
+{
+    mul_short(a, b, 6, 64, 15625)
+}
+
+// Any a: two quotients.
+pub fn mul_wide(a: i64, b: i64) -> i64
+    requires { ⌜ (In 57 a) × (In 25 b) ⌝ }
+    ensures { λ r. ⌜ r ≡ mul a b ⌝ }
+{
+    mul_div(a, b, 1000000)
+}
+
+// Any a, of which nearly all are below 2^38.
 pub fn mul(a: i64, b: i64) -> i64
     requires { ⌜ (In 57 a) × (In 25 b) ⌝ }
     ensures { λ r. ⌜ r ≡ mul a b ⌝ }
 {
-    if a < -8796093022207 || 8796093022207 < a {
-        return mul_div(a, b, 1000000);
+    if a < -274877906943 || 274877906943 < a {
+        return mul_wide(a, b);
     }
-    mul_short(a, b, 6, 64, 15625)
+    mul_once(a, b)
 }

@@ -4,8 +4,8 @@ use Rattle.bands.specs.declared.Band.{Band}
 use Rattle.bands.specs.declared.Band.the-variants.{Low, Middle, High}
 use Rattle.tgas2_entropy.specs.Entropy.{entropyCoefficients}
 
--- every one is below 2^44: one computed test over each list
-pub entropy-small : (b : Band) → AllIn 44 (entropyCoefficients b)
+-- every one is below 2^43: one computed test over each list
+pub entropy-small : (b : Band) → AllIn 43 (entropyCoefficients b)
 unfolding entropyCoefficients
 entropy-small Low = record { all = tt }
 entropy-small Middle = record { all = tt }

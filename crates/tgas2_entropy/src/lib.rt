@@ -1,16 +1,22 @@
-// The entropy's coefficients and limits in TGAS2, reached by band.
+// The entropy's coefficients in TGAS2, packed, and its limits: the fit of a band.
+mod blocks;
+
 use bands::Band;
+use packed_bicubic::bicubic_of;
 ghost use mathlib.Core.Path.{_≡_};
+ghost use Rattle.quotient.specs.Range.{In};
+ghost use Rattle.bicubic.specs.Bicubic.{bicubic};
 ghost use Rattle.tgas2_entropy.specs.Entropy.{entropyCoefficients, entropyLimit, low-n, middle-n, high-n};
 
 // The bicubic n of a band.
-pub fn entropy_bicubic(band: Band) -> [i64; 10]
-    ensures { λ r. ⌜ r ≡ entropyCoefficients band ⌝ }
+pub fn entropy_bicubic(band: Band, y: i64, z: i64) -> i64
+    requires { ⌜ (In 25 y) × (In 25 z) ⌝ }
+    ensures { λ r. ⌜ r ≡ bicubic (entropyCoefficients band) y z ⌝ }
 {
     match band {
-        Band::Low => low_entropy(),
-        Band::Middle => middle_entropy(),
-        Band::High => high_entropy(),
+        Band::Low => low_entropy(y, z),
+        Band::Middle => middle_entropy(y, z),
+        Band::High => high_entropy(y, z),
     }
 }
 
@@ -26,55 +32,25 @@ pub fn entropy_limit(band: Band) -> i64
 }
 
 // Label 80, GAS1 to GAS4.
-fn low_entropy() -> [i64; 10]
-    ensures { λ r. ⌜ r ≡ low-n ⌝ }
+fn low_entropy(y: i64, z: i64) -> i64
+    requires { ⌜ (In 25 y) × (In 25 z) ⌝ }
+    ensures { λ r. ⌜ r ≡ bicubic low-n y z ⌝ }
 {
-    [
-        -0_9910810000,
-        -5_0027700000,
-        54_6521000000,
-        5_1014400000,
-        0_0176206000,
-        0_0212002000,
-        0_0017635800,
-        -29_7001000000,
-        -1_8491500000,
-        5_8789200000,
-    ]
+    bicubic_of(&blocks::LOW_N_BYTES, &blocks::LOW_N, y, z)
 }
 
 // Label 90, GAS1 to GAS4.
-fn middle_entropy() -> [i64; 10]
-    ensures { λ r. ⌜ r ≡ middle-n ⌝ }
+fn middle_entropy(y: i64, z: i64) -> i64
+    requires { ⌜ (In 25 y) × (In 25 z) ⌝ }
+    ensures { λ r. ⌜ r ≡ bicubic middle-n y z ⌝ }
 {
-    [
-        10_8360000000,
-        -4_5552400000,
-        29_6473000000,
-        3_9085100000,
-        -0_0020573200,
-        0_0365982000,
-        0_0052382100,
-        -16_7001000000,
-        -1_4462300000,
-        3_9830700000,
-    ]
+    bicubic_of(&blocks::MIDDLE_N_BYTES, &blocks::MIDDLE_N, y, z)
 }
 
 // Label 100, GAS1 to GAS4.
-fn high_entropy() -> [i64; 10]
-    ensures { λ r. ⌜ r ≡ high-n ⌝ }
+fn high_entropy(y: i64, z: i64) -> i64
+    requires { ⌜ (In 25 y) × (In 25 z) ⌝ }
+    ensures { λ r. ⌜ r ≡ bicubic high-n y z ⌝ }
 {
-    [
-        20_1858000000,
-        -3_1345800000,
-        10_3619000000,
-        1_8776700000,
-        -0_1729220000,
-        0_1121740000,
-        0_0128626000,
-        -5_4355700000,
-        -0_8710480000,
-        2_0178900000,
-    ]
+    bicubic_of(&blocks::HIGH_N_BYTES, &blocks::HIGH_N, y, z)
 }

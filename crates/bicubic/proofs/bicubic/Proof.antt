@@ -17,7 +17,7 @@ use Rattle.bicubic.proofs.bicubic.Tie as tie
 
 -- the arguments' ranges, and the same as the machine reads them
 k : (s : tie.Start) (i : ℕ) → In 44 (getD (s .args .t1) i (pos 0))
-k s i = all-at (s .pre .0) i
+k s i = in-wider tt (all-at (s .pre .0) i)
 
 y : (s : tie.Start) → In 25 (s .args .y)
 y s = s .pre .1 .0
@@ -28,8 +28,8 @@ z s = s .pre .1 .1
 fk : (s : tie.Start) (i : ℕ) → SFits w64 (getD (s .args .t1) i (pos 0))
 fk s i = in-fits (in-wider tt (k s i))
 
-ik : (s : tie.Start) (i : ℕ) → In 44 (toZ w64 (ofZ w64 (getD (s .args .t1) i (pos 0))))
-ik s i = in-back (fk s i) (k s i)
+ik : (s : tie.Start) (i : ℕ) → In 43 (toZ w64 (ofZ w64 (getD (s .args .t1) i (pos 0))))
+ik s i = in-back (fk s i) (all-at (s .pre .0) i)
 
 iy : (s : tie.Start) → In 25 (toZ w64 (ofZ w64 (s .args .y)))
 iy s = in-back (s .fits .y) (y s)

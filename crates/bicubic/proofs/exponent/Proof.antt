@@ -11,7 +11,7 @@ use Rattle.quotient.specs.Mul.{mul}
 use Rattle.bicubic.specs.Bicubic.{coefficient, exponent}
 use Rattle.integer.proofs.Machine.{back, back-ok}
 use Rattle.quotient.proofs.Machine.{in-back, in-ok, in-wider, in-fits, all-at}
-use Rattle.bicubic.proofs.Ranges.{sum-in, term-in, exponent-size}
+use Rattle.bicubic.proofs.Ranges.{linear-in, sum-in, term-in, exponent-size}
 use Rattle.bicubic.proofs.exponent.Statement.{statement}
 use Rattle.bicubic.proofs.exponent.Tie as tie
 
@@ -44,6 +44,9 @@ plane s = line s +ℤ mul (co s 2) (s .args .z)
 abbrev whole : tie.Start → ℤ
 whole s = plane s +ℤ mul (mul (co s 3) (s .args .y)) (s .args .z)
 
+f1 : (s : tie.Start) → SFits w64 (line s)
+f1 s = in-fits (in-wider tt (linear-in (k s 0) (k s 1) (s .pre .1 .0)))
+
 f2 : (s : tie.Start) → SFits w64 (plane s)
 f2 s = in-fits (in-wider tt (sum-in (k s 0) (k s 1) (k s 2) (s .pre .1 .0) (s .pre .1 .1)))
 
@@ -51,76 +54,84 @@ f3 : (s : tie.Start) → SFits w64 (whole s)
 f3 s = in-fits (in-wider tt (exponent-size (k s 3) (s .pre .1 .0) (s .pre .1 .1) (k s 0) (k s 1) (k s 2)))
 
 -- the calls' results
-e1 : (c : tie.After-linear) → toZ w64 (ofZ w64 (c .linear .result)) ≡ line (c .before .before .before)
+e1 : (c : tie.After-mul-wide) → let s = c .before .before .before in toZ w64 (ofZ w64 (c .mul-wide .result)) ≡ mul (co s 1) (s .args .y)
 e1 c =
     let s = c .before .before .before in
-    back-ok (c .linear .result) (c .linear .ok) ∙ (rw (back (fk s 0), back (fk s 1), back (s .fits .y)) at (c .linear .ensures))
+    back-ok (c .mul-wide .result) (c .mul-wide .ok) ∙ (rw (back (fk s 1), back (s .fits .y)) at (c .mul-wide .ensures))
 
-e2 : (c : tie.After-mul) → let s = c .before .before .before .before .before in toZ w64 (ofZ w64 (c .mul .result)) ≡ mul (co s 2) (s .args .z)
+e2 : (c : tie.After-mul-wide2) → let s = c .before .before .before .before .before in toZ w64 (ofZ w64 (c .mul-wide2 .result)) ≡ mul (co s 2) (s .args .z)
 e2 c =
     let s = c .before .before .before .before .before in
-    back-ok (c .mul .result) (c .mul .ok) ∙ (rw (back (fk s 2), back (s .fits .z)) at (c .mul .ensures))
+    back-ok (c .mul-wide2 .result) (c .mul-wide2 .ok) ∙ (rw (back (fk s 2), back (s .fits .z)) at (c .mul-wide2 .ensures))
 
-e3 : (c : tie.After-mul2) → let s = c .before .before .before .before .before .before .before in c .mul2 .result ≡ mul (co s 3) (s .args .y)
-e3 c = let s = c .before .before .before .before .before .before .before in rw (back (fk s 3), back (s .fits .y)) at (c .mul2 .ensures)
+e3 : (c : tie.After-mul-wide3) → let s = c .before .before .before .before .before .before .before in c .mul-wide3 .result ≡ mul (co s 3) (s .args .y)
+e3 c = let s = c .before .before .before .before .before .before .before in rw (back (fk s 3), back (s .fits .y)) at (c .mul-wide3 .ensures)
 
-e4 : (c : tie.After-mul3) → let s = c .before .before .before .before .before .before .before .before in toZ w64 (ofZ w64 (c .mul3 .result)) ≡ mul (mul (co s 3) (s .args .y)) (s .args .z)
+e4 : (c : tie.After-mul-wide4) → let s = c .before .before .before .before .before .before .before .before in toZ w64 (ofZ w64 (c .mul-wide4 .result)) ≡ mul (mul (co s 3) (s .args .y)) (s .args .z)
 e4 c =
     let s = c .before .before .before .before .before .before .before .before in
     let d = c .before in
-    back-ok (c .mul3 .result) (c .mul3 .ok)
-    ∙ (rw (back-ok (d .mul2 .result) (d .mul2 .ok), e3 d, back (s .fits .z)) at (c .mul3 .ensures))
+    back-ok (c .mul-wide4 .result) (c .mul-wide4 .ok)
+    ∙ (rw (back-ok (d .mul-wide3 .result) (d .mul-wide3 .ok), e3 d, back (s .fits .z)) at (c .mul-wide4 .ensures))
 
-array-copy-out-linear : tie.Need-array-copy-out-linear
-array-copy-out-linear c = search needs
+array-copy-out-result : tie.Need-array-copy-out-result
+array-copy-out-result c = search needs
 
-array-copy-out-linear-2 : tie.Need-array-copy-out-linear-2
-array-copy-out-linear-2 c = search needs
+array-copy-out-mul-wide : tie.Need-array-copy-out-mul-wide
+array-copy-out-mul-wide c = search needs
 
-linear-requires : tie.Need-linear-requires
-linear-requires c κs = let s = c .before .before in (ik s 0, (ik s 1, iy s))
-
-array-copy-out-mul : tie.Need-array-copy-out-mul
-array-copy-out-mul c = search needs
-
-mul-requires : tie.Need-mul-requires
-mul-requires c κs = let s = c .before .before .before .before in (in-wider tt (ik s 2), iz s)
+mul-wide-requires : tie.Need-mul-wide-requires
+mul-wide-requires c κs = let s = c .before .before in (in-wider tt (ik s 1), iy s)
 
 add-result : tie.Need-add-result
-add-result c = rw (e1 (c .before .before), e2 c) (f2 (c .before .before .before .before .before))
+add-result c = let s = c .before .before .before in rw (back (fk s 0), e1 c) (f1 s)
 
-array-copy-out-mul-2 : tie.Need-array-copy-out-mul-2
-array-copy-out-mul-2 c = search needs
+array-copy-out-mul-wide-2 : tie.Need-array-copy-out-mul-wide-2
+array-copy-out-mul-wide-2 c = search needs
 
-mul-requires-2 : tie.Need-mul-requires-2
-mul-requires-2 c κs = let s = c .before .before .before .before .before .before in (in-wider tt (ik s 3), iy s)
-
-mul-requires-3 : tie.Need-mul-requires-3
-mul-requires-3 c κs =
-    let s = c .before .before .before .before .before .before .before in
-    (in-ok (e3 c) (c .mul2 .ok) (term-in (k s 3) (s .pre .1 .0) (s .pre .1 .1)), iz s)
+mul-wide-requires-2 : tie.Need-mul-wide-requires-2
+mul-wide-requires-2 c κs = let s = c .before .before .before .before in (in-wider tt (ik s 2), iz s)
 
 add-result-2 : tie.Need-add-result-2
 add-result-2 c =
-    let s = c .before .before .before .before .before .before .before .before in rw (e1 (c .before .before .before .before .before), e2 (c .before .before .before), e4 c, back (f2 s)) (f3 s)
+    let s = c .before .before .before .before .before in
+    rw (back (fk s 0), e1 (c .before .before), e2 c, back (f1 s)) (f2 s)
+
+array-copy-out-mul-wide-3 : tie.Need-array-copy-out-mul-wide-3
+array-copy-out-mul-wide-3 c = search needs
+
+mul-wide-requires-3 : tie.Need-mul-wide-requires-3
+mul-wide-requires-3 c κs = let s = c .before .before .before .before .before .before in (in-wider tt (ik s 3), iy s)
+
+mul-wide-requires-4 : tie.Need-mul-wide-requires-4
+mul-wide-requires-4 c κs =
+    let s = c .before .before .before .before .before .before .before in
+    (in-ok (e3 c) (c .mul-wide3 .ok) (term-in (k s 3) (s .pre .1 .0) (s .pre .1 .1)), iz s)
+
+add-result-3 : tie.Need-add-result-3
+add-result-3 c =
+    let s = c .before .before .before .before .before .before .before .before in
+    rw (back (fk s 0), e1 (c .before .before .before .before .before), e2 (c .before .before .before), e4 c, back (f1 s), back (f2 s)) (f3 s)
 
 returns : tie.Need-returns
 unfolding exponent
 returns c =
-    let s = c .before .before .before .before .before .before .before .before in rw (e1 (c .before .before .before .before .before), e2 (c .before .before .before), e4 c, back (f2 s), back (f3 s))
+    let s = c .before .before .before .before .before .before .before .before in
+    rw (back (fk s 0), e1 (c .before .before .before .before .before), e2 (c .before .before .before), e4 c, back (f1 s), back (f2 s), back (f3 s))
 
 pub exponent-spec : {M : Type 1} → statement M
 exponent-spec =
     tie.close
     (tie.spec
-    array-copy-out-linear
-    array-copy-out-linear-2
-    linear-requires
-    array-copy-out-mul
-    mul-requires
+    array-copy-out-result
+    array-copy-out-mul-wide
+    mul-wide-requires
     add-result
-    array-copy-out-mul-2
-    mul-requires-2
-    mul-requires-3
+    array-copy-out-mul-wide-2
+    mul-wide-requires-2
     add-result-2
+    array-copy-out-mul-wide-3
+    mul-wide-requires-3
+    mul-wide-requires-4
+    add-result-3
     returns)

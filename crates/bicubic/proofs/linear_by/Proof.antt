@@ -4,7 +4,7 @@ use borrow.Author.Needs.{needs}
 use lib.IntN.{ℤ, _+ℤ_}
 use Rattle.quotient.specs.Mul.{mul}
 use Rattle.integer.proofs.Machine.{back, back-ok}
-use Rattle.quotient.proofs.Machine.{in-back, in-ok}
+use Rattle.quotient.proofs.Machine.{in-back, in-ok, in-wider}
 use Rattle.bicubic.proofs.Ranges.{linear-in}
 use Rattle.bicubic.proofs.linear_by.Statement.{statement}
 use Rattle.bicubic.proofs.linear_by.Tie as tie
@@ -18,7 +18,7 @@ line c = rw (back (c .before .fits .a), back (c .before .fits .b), back (c .befo
 mul-requires : tie.Need-mul-requires
 mul-requires c κs =
     let p = c .before .pre in
-    (in-ok (line c) (c .linear .ok) (linear-in (p .0) (p .1 .0) (p .1 .1 .0)), in-back (c .before .fits .z) (p .1 .1 .1))
+    (in-ok (line c) (c .linear .ok) (linear-in (in-wider tt (p .0)) (in-wider tt (p .1 .0)) (p .1 .1 .0)), in-back (c .before .fits .z) (p .1 .1 .1))
 
 returns : tie.Need-returns
 returns c =

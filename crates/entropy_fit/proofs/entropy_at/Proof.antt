@@ -15,6 +15,7 @@ use Rattle.bicubic.specs.Bicubic.{bicubic}
 use Rattle.integer.proofs.Machine.{back, back-ok, fits64}
 use Rattle.quotient.proofs.Machine.{in-back, in-ok}
 use Rattle.proportion.proofs.Scaling.{entropy-rise-size}
+use Rattle.bands.specs.declared.Band.{Band}
 use Rattle.bands.specs.Bands.{bandOf}
 use Rattle.tgas2_entropy.specs.Entropy.{entropyCoefficients}
 use Rattle.tgas2_entropy.proofs.Sizes.{entropy-small}
@@ -68,37 +69,30 @@ band-of-requires : tie.Need-band-of-requires
 band-of-requires c κs = search needs
 
 entropy-bicubic-requires : tie.Need-entropy-bicubic-requires
-entropy-bicubic-requires c κs = search needs
+entropy-bicubic-requires c κs =
+    let s = c .before .before in
+    (in-back (s .fits .y) (in-25 (s .args .y) (s .pre .y-most)), in-back (s .fits .z) (in-25 (s .args .z) (omega (arith, s .pre .z-most))))
 
-table : (c : tie.After-entropy-bicubic) → c .entropy-bicubic .result ≡ entropyCoefficients (bandOf (c .before .before .before .args .y))
-table c = c .entropy-bicubic .ensures ∙ ap entropyCoefficients (rw (back (c .before .before .before .fits .y)) at (c .before .band-of .ensures))
-
-bicubic-requires : tie.Need-bicubic-requires
-bicubic-requires c κs =
-    let s = c .before .before .before in (
-      rw (table c) (entropy-small (bandOf (s .args .y))),
-      (in-back (s .fits .y) (in-25 (s .args .y) (s .pre .y-most)), in-back (s .fits .z) (in-25 (s .args .z) (omega (arith, s .pre .z-most)))),
-    )
-
-fit-is : (c : tie.After-bicubic) → let s = c .before .before .before .before in
-    c .bicubic .result ≡ bicubic (entropyCoefficients (bandOf (s .args .y))) (s .args .y) (s .args .z)
+fit-is : (c : tie.After-entropy-bicubic) → let s = c .before .before .before in
+    c .entropy-bicubic .result ≡ bicubic (entropyCoefficients (bandOf (s .args .y))) (s .args .y) (s .args .z)
 fit-is c =
-    let s = c .before .before .before .before in
-    (rw (back (s .fits .y), back (s .fits .z)) at (c .bicubic .ensures)) ∙ ap (λ k. bicubic k (s .args .y) (s .args .z)) (table (c .before))
+    let s = c .before .before .before in
+    (rw (back (s .fits .y), back (s .fits .z)) at (c .entropy-bicubic .ensures))
+    ∙ ap (λ (b : Band). bicubic (entropyCoefficients b) (s .args .y) (s .args .z)) (rw (back (s .fits .y)) at (c .before .band-of .ensures))
 
 entropy-of-fit-requires : tie.Need-entropy-of-fit-requires
 entropy-of-fit-requires c κs =
-    let s = c .before .before .before .before in
-    in-ok (fit-is c) (c .bicubic .ok) (bicubic-in (entropyCoefficients (bandOf (s .args .y))) (s .args .y) (s .args .z) (entropy-small (bandOf (s .args .y))) (s .pre .y-most) (s .pre .z-most))
+    let s = c .before .before .before in
+    in-ok (fit-is c) (c .entropy-bicubic .ok) (bicubic-in (entropyCoefficients (bandOf (s .args .y))) (s .args .y) (s .args .z) (entropy-small (bandOf (s .args .y))) (s .pre .y-most) (s .pre .z-most))
 
 returns-2 : tie.Need-returns-2
 unfolding entropyAt fittedEntropy
 returns-2 c =
     let a = c .before in
-    let s = a .before .before .before .before in
-    let e : leZ (s .args .z) (pos 650000) ≡ false = rw (back (s .fits .z)) at (a .before .before .before .if1 .left) in
+    let s = a .before .before .before in
+    let e : leZ (s .args .z) (pos 650000) ≡ false = rw (back (s .fits .z)) at (a .before .before .if1 .left) in
     back-ok (c .entropy-of-fit .result) (c .entropy-of-fit .ok)
-    ∙ (rw (back-ok (a .bicubic .result) (a .bicubic .ok), fit-is a) at (c .entropy-of-fit .ensures))
+    ∙ (rw (back-ok (a .entropy-bicubic .result) (a .entropy-bicubic .ok), fit-is a) at (c .entropy-of-fit .ensures))
     ∙ ap (λ (b : Bool). cond b (perfectEntropy (s .args .y) (s .args .z)) (fittedEntropy (s .args .y) (s .args .z))) (sym e)
 
 pub entropy-at-spec : {M : Type 1} → statement M
@@ -111,6 +105,5 @@ entropy-at-spec =
     returns
     band-of-requires
     entropy-bicubic-requires
-    bicubic-requires
     entropy-of-fit-requires
     returns-2)

@@ -1,11 +1,11 @@
 -- `temperature_fit::fit_in` is the fit of the piece that Z chooses.
 use mathlib.Core.Path.{_≡_, ap, _∙_}
+use Prim.Native.Nat.{ℕ}
 use native.Mathlib.Omega.{arith}
 use borrow.Author.Needs.{needs}
 use Rattle.integer.proofs.Machine.{back}
 use Rattle.weight.specs.Choice.{weightOf}
 use Rattle.quotient.proofs.Machine.{in-back}
-use Rattle.fit.specs.Fit.{Piece}
 use Rattle.fit.specs.Edge.{edgeWith}
 use Rattle.fit.proofs.Pieces.{workable}
 use Rattle.bands.specs.Region.{temperatureIndex}
@@ -24,22 +24,17 @@ index c = rw (back (c .before .fits .z)) at (c .piece-index .ensures)
 
 returns : tie.Need-returns
 returns c =
-    let p = c .before in
-    let s = p .before .before in
-    let y = s .args .y in
-    let z = s .args .z in
-    (rw (back (s .fits .y), back (s .fits .z)) at (c .edge-at .ensures))
-    ∙ ap (λ (k : Piece). edgeWith weightOf k y z) (p .piece .ensures ∙ ap (temperaturePiece (s .args .band)) (index (p .before)))
+    let s = c .before .before in
+    (rw (back (s .fits .y), back (s .fits .z)) at (c .piece .ensures))
+    ∙ ap (λ (i : ℕ). edgeWith weightOf (temperaturePiece (s .args .band) i) (s .args .y) (s .args .z)) (index (c .before))
 
 piece-requires : tie.Need-piece-requires
-piece-requires c κs = rw (index c) (index-is-piece (c .before .args .band) (c .before .args .z))
-
-edge-at-requires : tie.Need-edge-at-requires
-edge-at-requires c κs =
-    let s = c .before .before in
-    rw (c .piece .ensures)
-    (workable (piece-small (s .args .band) (c .before .piece-index .result)) (in-back (s .fits .y) (in-23 (s .args .y) (s .pre .y-most)))
-    (in-back (s .fits .z) (in-23 (s .args .z) (omega (arith, s .pre .z-most)))))
+piece-requires c κs =
+    let s = c .before in (
+      rw (index c) (index-is-piece (s .args .band) (s .args .z)),
+      workable (piece-small (s .args .band) (c .piece-index .result)) (in-back (s .fits .y) (in-23 (s .args .y) (s .pre .y-most)))
+          (in-back (s .fits .z) (in-23 (s .args .z) (omega (arith, s .pre .z-most)))),
+    )
 
 pub fit-in-spec : {M : Type 1} → statement M
-fit-in-spec = tie.close (tie.spec piece-index-requires piece-requires edge-at-requires returns)
+fit-in-spec = tie.close (tie.spec piece-index-requires piece-requires returns)

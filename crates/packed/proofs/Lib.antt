@@ -1,0 +1,4 @@
+pub mod Joined
+pub mod Blocks
+pub mod Law
+pub mod Pins
