@@ -1,17 +1,14 @@
 -- How large products and the parts of the bicubic and of the exponent are, for coefficients below 2^44 and |Y|, |Z| below 2^25.
 use mathlib.Core.List.{List}
-use Prim.Native.Nat.{ℕ, _+_, _*_, _/_, _^_, _≤_, _<_}
-use native.Mathlib.Nat.{mul-le-mul, mul-le-mul-left, le-of-lt}
+use Prim.Native.Nat.{ℕ, _+_, _*_, _^_}
+use native.Mathlib.Nat.{le-of-lt}
 use native.Mathlib.Omega.{arith}
-use lib.Dec.{T, ltb, ltb→lt, lt→ltb, lit<}
-use lib.IntN.{ℤ, pos, natAbs, _+ℤ_, _*ℤ_}
-use lib.Signed.{shrZ}
-use Rattle.integer.specs.Laws.{abs-*}
-use Rattle.quotient.specs.Range.{In, AllIn, Divides, Splits}
+use lib.Dec.{T, ltb, ltb→lt}
+use lib.IntN.{ℤ, _+ℤ_}
+use Rattle.quotient.specs.Range.{In, AllIn}
 use Rattle.quotient.specs.Mul.{mul}
 use Rattle.bicubic.specs.Bicubic.{bicubic}
 use Rattle.bicubic.proofs.Size.{ceiling, Upto, upto-plus, upto-mul, size, bicubic-size-all}
-use Rattle.quotient.proofs.Floors.{quotient-mono, quotient-size}
 use Rattle.quotient.proofs.Machine.{all-at}
 
 upto : {n : ℕ} {z : ℤ} → In n z → Upto (2 ^ n) z

@@ -1,8 +1,7 @@
 -- Packed numbers at exact places: which are narrow, and a block of three.
-use mathlib.Core.Bool.{Bool, true, false}
+use mathlib.Core.Bool.{true, false}
 use mathlib.Core.List.{List, [], _∷_}
 use mathlib.Core.Path.{_≡_, refl}
-use Prim.Native.Nat.{ℕ}
 use lib.IntN.{ℤ, pos, negsuc}
 use Rattle.packed.specs.Packed.{isNarrow, wordsOf, bytesFrom}
 

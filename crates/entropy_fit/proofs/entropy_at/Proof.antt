@@ -1,16 +1,15 @@
 -- `entropy_fit::entropy_at` is the entropy at a place: perfect up to 650,000, else the band's fit.
 use mathlib.Core.Path.{_≡_, sym, ap, _∙_}
 use mathlib.Core.Bool.{Bool, true, false, cond}
-use Prim.Native.Nat.{ℕ, _+_, _*_, _^_, _<_}
+use Prim.Native.Nat.{ℕ, _+_, _*_, _^_}
 use native.Mathlib.Omega.{arith}
 use borrow.Author.Needs.{needs}
 use lib.Dec.{T, leb, leb→le}
-use lib.IntN.{ℤ, pos, natAbs, _+ℤ_, _*ℤ_}
+use lib.IntN.{ℤ, pos, _+ℤ_, _*ℤ_}
 use lib.Signed.{leZ, shrZ}
 use mir.Syntax.{w64}
-use mir.Val.{SFits, toZ, ofZ}
+use mir.Val.{SFits}
 use Rattle.integer.specs.Laws.{abs-+}
-use Rattle.quotient.specs.Range.{In}
 use Rattle.bicubic.specs.Bicubic.{bicubic}
 use Rattle.integer.proofs.Machine.{back, back-ok, fits64}
 use Rattle.quotient.proofs.Machine.{in-back, in-ok}

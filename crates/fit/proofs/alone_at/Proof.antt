@@ -1,8 +1,7 @@
 -- `fit::alone_at` is the fit of a piece without a second bicubic.
-use mathlib.Core.Path.{_≡_, ap}
+use mathlib.Core.Path.{ap}
 use borrow.Author.Needs.{needs}
 use lib.IntN.{ℤ, pos}
-use Rattle.fit.specs.declared.Edge.{Edge}
 use Rattle.integer.proofs.Machine.{back, back-ok}
 use Rattle.fit.proofs.alone_at.Statement.{statement}
 use Rattle.fit.proofs.alone_at.Tie as tie

@@ -1,5 +1,5 @@
 -- `packed::widened` is its argument.
-use mir.Syntax.{w32, w64}
+use mir.Syntax.{w32}
 use mir.ValLaws.{toZ-ofZ}
 use Rattle.integer.proofs.Machine.{back}
 use Rattle.packed.proofs.Joined.{word-fits}

@@ -1,5 +1,5 @@
 -- `quotient::mul` is the quotient by a million, by the way that the size of a allows.
-use mathlib.Core.Path.{_≡_, _∙_}
+use mathlib.Core.Path.{_∙_}
 use native.Mathlib.Omega.{arith}
 use borrow.Author.Needs.{needs}
 use Rattle.quotient.specs.Range.{In}

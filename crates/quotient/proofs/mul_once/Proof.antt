@@ -1,5 +1,5 @@
 -- `quotient::mul_once` is the quotient by a million: the product by 64 and then by 15,625.
-use mathlib.Core.Path.{_≡_, _∙_}
+use mathlib.Core.Path.{_∙_}
 use lib.Dec.{lit<, lit≤}
 use lib.IntN.{_*ℤ_}
 use mir.Syntax.{w64}

@@ -1,5 +1,5 @@
 -- `quotient::mul_small` is the quotient by a million: by 64 and then by 15,625.
-use mathlib.Core.Path.{_≡_, refl, _∙_}
+use mathlib.Core.Path.{refl, _∙_}
 use lib.Dec.{lit<, lit≤}
 use Rattle.quotient.specs.Mul.{mul}
 use Rattle.integer.proofs.Machine.{back, back-ok}

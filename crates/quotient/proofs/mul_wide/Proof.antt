@@ -1,5 +1,5 @@
 -- `quotient::mul_wide` is the quotient by a million.
-use mathlib.Core.Path.{_≡_, _∙_}
+use mathlib.Core.Path.{_∙_}
 use Rattle.quotient.specs.Mul.{mul}
 use Rattle.integer.proofs.Machine.{back, back-ok}
 use Rattle.quotient.proofs.Splits.{mul-splits}

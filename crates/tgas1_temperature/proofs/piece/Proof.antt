@@ -1,5 +1,5 @@
 -- `tgas1_temperature::piece` meets its contract: each arm has its piece, and the last arm is the last piece.
-use mathlib.Core.Path.{_≡_, refl}
+use mathlib.Core.Path.{refl}
 use Prim.Native.Nat.{zero-le}
 use borrow.Author.Needs.{needs}
 use Rattle.tgas1_temperature.specs.Pieces.{temperaturePieces}

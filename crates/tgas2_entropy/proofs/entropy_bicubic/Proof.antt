@@ -1,5 +1,5 @@
 -- `tgas2_entropy::entropy_bicubic` meets its contract.
-use mathlib.Core.Path.{_≡_, _∙_, sym, ap}
+use mathlib.Core.Path.{_∙_, sym, ap}
 use borrow.Author.Needs.{needs}
 use Rattle.integer.proofs.Machine.{back, back-ok}
 use Rattle.bands.specs.declared.Band.{Band}
