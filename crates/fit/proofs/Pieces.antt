@@ -1,5 +1,5 @@
 -- A piece of a table that passes one computed test has small coefficients, and the code takes it at a place.
-use mathlib.Core.Bool.{Bool, true, false, _&&_}
+use mathlib.Core.Bool.{Bool, true, _&&_}
 use mathlib.Core.List.{List, [], _∷_}
 use Prim.Native.Nat.{ℕ, zero, suc}
 use lib.Dec.{T}
@@ -8,7 +8,7 @@ use lib.ListN.{getD}
 use Rattle.quotient.specs.Range.{In, allIn}
 use Rattle.fit.specs.Fit.{Piece, alone, firstOf, secondOf, termsOf}
 use Rattle.fit.specs.Edge.{Small, Workable}
-use Rattle.quotient.proofs.Machine.{in-wider}
+use Rattle.quotient.proofs.Machine.{in-wider, both}
 use Rattle.bicubic.proofs.Ranges.{bicubic-in}
 
 -- ---- small coefficients
@@ -18,10 +18,6 @@ isSmall k = allIn 43 (firstOf k) && (allIn 43 (secondOf k) && allIn 44 (termsOf 
 unfoldable pub allSmall : List Piece → Bool
 allSmall [] = true
 allSmall (k ∷ ks) = isSmall k && allSmall ks
-
-both : (a b : Bool) → T (a && b) → T a × T b
-both true b t = (tt, t)
-both false b t = absurd t
 
 small : (k : Piece) → T (isSmall k) → Small k
 small k t =

@@ -1,5 +1,4 @@
 -- A block's numbers one by one: each can be read, and together they are the unpacked list.
-use mathlib.Core.Bool.{Bool, true, false, _&&_}
 use mathlib.Core.List.{List, [], _∷_}
 use mathlib.Core.Path.{_≡_, refl, ap₂}
 use Prim.Native.Nat.{ℕ, zero, suc, _+_, _%_, _^_, _<_}
@@ -8,12 +7,8 @@ use lib.Dec.{T, ltb, leb, ltb→lt}
 use lib.IntN.{ℤ, pos}
 use lib.ListN.{getD, length, take}
 use Rattle.quotient.specs.Range.{In, allIn, AllIn}
-use Rattle.quotient.proofs.Machine.{in-wider, all-at}
+use Rattle.quotient.proofs.Machine.{in-wider, both, all-at}
 use Rattle.packed.specs.Packed.{placeOf, numberAt, unpacked, bytesFrom, wordsOf, allFound, Block, Reads}
-
-both : (a b : Bool) → T (a && b) → T a × T b
-both true b t = (tt, t)
-both false b t = absurd t
 
 -- a byte that is there finds its words
 found-at : (n : ℕ) (p : List ℕ) → T (allFound n p) → (i : ℕ) → i < length p → placeOf (getD p i 0) + getD p i 0 % 2 < n

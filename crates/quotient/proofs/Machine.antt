@@ -140,11 +140,12 @@ steps a b (pos m) h s e =
       is = split a b h q m hm refl;
     }
 
--- a list of which every number is in a range
-both : (a b : Bool) → T (a && b) → T a × T b
+-- the halves of a test
+pub both : (a b : Bool) → T (a && b) → T a × T b
 both true b t = (tt, t)
 both false b t = absurd t
 
+-- a list of which every number is in a range
 at : (n : ℕ) (l : List ℤ) → T (allIn n l) → (i : ℕ) → In n (getD l i (pos 0))
 at n [] t i = record { size = pow-pos n }
 at n (z ∷ l) t zero = record { size = ltb→lt (natAbs z) (2 ^ n) (both (ltb (natAbs z) (2 ^ n)) (allIn n l) t .0) }
