@@ -218,10 +218,10 @@ def step(library, cells, one):
 
 def follow(library, section, start):
     """what is known of memory at each call, on every path from there"""
-    code, todo, seen, calls = library.code[section], [(start, {"depth": 0})], set(), set()
+    code, paths, seen, calls = library.code[section], [(start, {"depth": 0})], set(), set()
     joins = {to for one in code.values() for to in library.leads(one) or []}
-    while todo:
-        at, cells = todo.pop()
+    while paths:
+        at, cells = paths.pop()
         state = at, frozenset(cells.items())
         if state in seen:
             continue
@@ -235,7 +235,7 @@ def follow(library, section, start):
             step(library, cells, one)
             at, leads = one.next, library.leads(one)
             if leads is not None or at in joins:
-                todo += [(to, dict(cells)) for to in ([at] if leads is None else leads)]
+                paths += [(to, dict(cells)) for to in ([at] if leads is None else leads)]
                 break
     return calls
 

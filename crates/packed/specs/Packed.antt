@@ -34,6 +34,7 @@ unpacked (byte ∷ bytes) words = numberAt words byte ∷ unpacked bytes words
 abbrev pub isNarrow : ℤ → Bool
 isNarrow k = leZ (negsuc 2147483647) k && ltZ k (pos 2147483648)
 
+-- a wide number is lower + upper * 2^32, its lower word from -2^31 to 2^31 - 1
 abbrev pub upperOf : ℤ → ℤ
 upperOf k = shrZ (k +ℤ pos 2147483648) 4294967296
 

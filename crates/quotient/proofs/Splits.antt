@@ -44,14 +44,8 @@ short-divides {m} a b h k some most =
     divides-over 64 m 8796093022207 (2 ^ 25) a b small (le-of-lt (k .size)) (lit< tt) some (omega (arith, room, most))
 
 -- ---- a product at once
-in-43 : {a : ℤ} → In 38 a → In 43 a
-in-43 h = record { size = omega (arith, h .size) }
-
 pub product-fits : (a b : ℤ) → In 38 a → In 25 b → SFits w64 (a *ℤ b)
 product-fits a b h k =
     let small : natAbs a ≤ 274877906943 = omega (arith, h .size) in
     let p : natAbs (a *ℤ b) ≤ 274877906943 * 2 ^ 25 = rw abs-* (mul-le-mul small (le-of-lt (k .size))) in
     fits64 _ (omega (arith, p))
-
-pub once-divides : {m : ℕ} (a b : ℤ) → In 38 a → In 25 b → 0 < m → m ≤ 15625 → Divides (shrZ (a *ℤ b) 64) (pos m)
-once-divides a b h k some most = short-divides a b (in-43 h) k some most

@@ -7,8 +7,8 @@ use mir.Val.{SFits}
 use Rattle.quotient.specs.Mul.{mul}
 use Rattle.integer.proofs.Machine.{back, back-ok}
 use Rattle.quotient.proofs.Floors.{twice}
-use Rattle.quotient.proofs.Machine.{quotient-fits}
-use Rattle.quotient.proofs.Splits.{product-fits, once-divides}
+use Rattle.quotient.proofs.Machine.{quotient-fits, in-wider}
+use Rattle.quotient.proofs.Splits.{product-fits, short-divides}
 use Rattle.quotient.proofs.mul_once.Statement.{statement}
 use Rattle.quotient.proofs.mul_once.Tie as tie
 
@@ -20,7 +20,7 @@ mul-floor-div c = rw (back (c .fits .a), back (c .fits .b)) (product c)
 
 floor-div-requires : tie.Need-floor-div-requires
 floor-div-requires c κs =
-    rw (back (c .fits .a), back (c .fits .b), back (product c), back (quotient-fits 64 (product c))) (once-divides (c .args .a) (c .args .b) (c .pre .0) (c .pre .1) (lit< tt) (lit≤ tt))
+    rw (back (c .fits .a), back (c .fits .b), back (product c), back (quotient-fits 64 (product c))) (short-divides (c .args .a) (c .args .b) (in-wider tt (c .pre .0)) (c .pre .1) (lit< tt) (lit≤ tt))
 
 returns : tie.Need-returns
 unfolding mul
