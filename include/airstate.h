@@ -1,4 +1,4 @@
-/* Equilibrium air: temperature, entropy and the state sheet.
+/* Equilibrium air: temperature, entropy, pressure and the state sheet.
  *
  * A sheet is the bytes of a file as docs/FORMAT.md has it: named states, each with a kind and two values. A spelled
  * name is a name by RFC 3986: letters, digits and - . _ ~ stand for themselves, any other byte is % and two hexadecimal
@@ -9,14 +9,20 @@
  *       1 to 10^17                     12,920 to 129,200,000,000,000
  *   2   energy in 10^-3 J/kg,          the same                       letter 'S': entropy in 10^-4 J/(kg K)
  *       7,840,840 to 10^12
+ *   3   the same                       the same                       letter 'P': pressure in 10^-6 Pa
  *
  * An answer's logarithms are decimal ones in millionths: y of the density over 1.292 kg/m3, x of the pressure over
- * 101,330 Pa, z = x - y for a temperature, z of the energy over 78,408.4 J/kg for an entropy.
+ * 101,330 Pa, z = x - y for a temperature, z of the energy over 78,408.4 J/kg for an entropy and a pressure.
+ *
+ * A pressure is D E (gamma - 10^10) / 10^18, rounded down: D and E are the density and the energy as given, gamma is
+ * the fitted ratio of enthalpy to energy in units of 10^-10. It is fitted up to z = 3,690,000, 3,400,000 and 2,900,000
+ * in the low, middle and high density band.
  *
  * The fits have three density bands, which meet at y = -4,500,000 and y = -500,000. Strictly within 25,000 of the first
  * edge and 5,000 of the second a value is joined: it lies on the straight line, rounded down, between the values at
  * both ends of that strip, each worked out with the state's own z in the band of its own y. So a plot has no step
- * there. An entropy is joined at every z, a temperature where its z is above 250,000; up to that the gas is perfect.
+ * there. An entropy and a pressure are joined at every z, a temperature where its z is above 250,000; up to that the
+ * gas is perfect. At both ends a pressure takes that end's gamma with the state's own density and energy.
  *
  * A byte sequence is a pointer and a length; a null pointer is allowed where the length is 0. A buffer that is lent for
  * writing overlaps no other argument. A refusal changes no byte of it; a success writes a prefix.
@@ -35,9 +41,9 @@ extern "C" {
 
 /* The version of this header. The library has the same soname as long as the first number stays. */
 #define EAS_VERSION_MAJOR 2
-#define EAS_VERSION_MINOR 1
-#define EAS_VERSION_PATCH 1
-#define EAS_VERSION "2.1.1"
+#define EAS_VERSION_MINOR 2
+#define EAS_VERSION_PATCH 0
+#define EAS_VERSION "2.2.0"
 
 /* Whether this header is of a version or a later one: #if !EAS_VERSION_AT_LEAST(2, 0, 0) ... #error */
 #define EAS_VERSION_AT_LEAST(major, minor, patch)                                                                      \
@@ -73,6 +79,9 @@ enum {
     EAS_Z_OUT_OF_RANGE = 12,   /* a temperature's z is below -1,000,000 or above 3,000,000; an entropy's is above its
                                   band's limit, in a join above that of either edge */
     EAS_FIT_OUT_OF_RANGE = 13, /* a temperature's G is below 0 or above 19,600,000,000, in a join at either edge */
+    EAS_NOT_FITTED = 17,       /* a pressure, in place of 12 and 13 and in a join by either edge: its z is above its
+                                  band's limit, or an exponential that is taken from one has an exponent less than 0.05
+                                  from 0; else its gamma is not above 1.01, or is 2 or more */
     /* a text */
     EAS_ROOM_TOO_SHORT = 14, /* the room is shorter than the text */
     EAS_LIST_TOO_LONG = 15   /* the name list is over 65,536 bytes */
@@ -109,6 +118,8 @@ static inline const char *eas_reason(uint32_t number) {
         return "pressure or energy outside what the fits cover at this density";
     case EAS_FIT_OUT_OF_RANGE:
         return "the fitted temperature is outside 273.15 to about 24,900 K";
+    case EAS_NOT_FITTED:
+        return "energy outside what the pressure fits cover at this density";
     case EAS_ROOM_TOO_SHORT:
         return "the room for the text is too short";
     case EAS_LIST_TOO_LONG:
@@ -120,8 +131,10 @@ static inline const char *eas_reason(uint32_t number) {
     }
 }
 
-/* One fit: the exponent G of the temperature over 273.15 K, and the weight W of the fit's second part, both in units of
- * 10^-10. value is 0 but in a joined temperature that is not refused: then it is that edge's own, in 10^-6 K. */
+/* One fit: of a temperature the exponent G of its ratio to 273.15 K, of a pressure gamma, and the weight W of the fit's
+ * second part, all in units of 10^-10. W is 0 where a fit has no second part; it is from 0 to 10^10 but where a
+ * pressure's fit takes an exponential from one: there it may be outside. value is 0 but in a join that is not refused:
+ * then it is that edge's own, in the unit of the answer. */
 typedef struct {
     int64_t fit, weight, value;
 } eas_edge;
@@ -129,15 +142,16 @@ typedef struct {
 enum { EAS_CARRIES_LOGS = 1, EAS_CARRIES_X = 2, EAS_CARRIES_LOW = 4, EAS_CARRIES_HIGH = 8, EAS_CARRIES_VALUE = 16 };
 
 /* Every field that is not carried is 0, so that two answers compare field by field. A refusal 12 carries the
- * logarithms, a refusal 13 the fit too, in a join both edges' fits and no value of either; the others carry nothing. */
+ * logarithms, a refusal 13 the fit too, in a join both edges' fits and no value of either; a refusal 17 by gamma is as
+ * 13, any other 17 as 12; the others carry nothing. x is carried by temperatures alone. */
 typedef struct {
     uint32_t number;    /* 0, or the refusal's number */
-    uint32_t letter;    /* 'T' temperature, 'S' entropy; 0 where nothing was worked out */
+    uint32_t letter;    /* 'T' temperature, 'S' entropy, 'P' pressure; 0 where nothing was worked out */
     uint32_t carries;   /* which of the fields below hold something: the sum of EAS_CARRIES_ values */
     int64_t x, y, z;    /* logarithms in whole millionths */
-    int64_t value;      /* temperature in 10^-6 K, or entropy in 10^-4 J/(kg K) */
-    eas_edge low, high; /* a single fit stands in low, a joined temperature's in both: low is at the smaller density; a
-                           perfect gas and an entropy have none */
+    int64_t value;      /* temperature in 10^-6 K, entropy in 10^-4 J/(kg K), or pressure in 10^-6 Pa */
+    eas_edge low, high; /* a single fit stands in low, those of a join in both: low is at the smaller density; a perfect
+                           gas's temperature and an entropy have none */
 } eas_answer;
 
 /* A record of a sheet. Its name is the `length` bytes of the sheet from `start` on, not spelled. Refused: all 0 but the
@@ -155,7 +169,7 @@ typedef struct {
 } eas_text;
 
 /* across is y + 7,000,000: the decimal logarithm of the density over 1.292e-7 kg/m3, in millionths, 0 to 10,000,000.
- * up is the answer's value. Both are whole numbers. */
+ * up is the answer's value, of a pressure whole pascals, rounded down. Both are whole numbers. */
 typedef struct {
     double across, up;
 } eas_point;
@@ -176,18 +190,19 @@ eas_record eas_find(const uint8_t *sheet, size_t n, const uint8_t *spelled, size
  * sheet; the records are i = 0, 1, ... until 9. */
 eas_record eas_record_at(const uint8_t *sheet, size_t n, size_t i);
 
-/* Finds a spelled name and works out its state: 0, or 1 to 13 or 16. */
+/* Finds a spelled name and works out its state: 0, or 1 to 13, 16 or 17. */
 eas_answer eas_search(const uint8_t *sheet, size_t n, const uint8_t *spelled, size_t m);
 
-/* Works out a state of a kind that stands in no sheet: 0, or 6 (every kind over 255 too) or 10 to 13. */
+/* Works out a state of a kind that stands in no sheet: 0, or 6 (every kind over 255 too), 10 to 13 or 17. */
 eas_answer eas_evaluate(uint32_t kind, uint64_t first, uint64_t second);
 
-/* The plot mark of a spelled name: a point, or blank with 1 to 13 or 16. */
+/* The plot mark of a spelled name: a point, or blank with 1 to 13, 16 or 17. */
 eas_mark eas_plot(const uint8_t *sheet, size_t n, const uint8_t *spelled, size_t m);
 
-/* The listing line of a spelled name, with its newline: "NAME T Y Z VALUE", "NAME S Y Z VALUE" or "NAME ! NUMBER", the
- * name spelled with upper-case digits, or ? where it cannot be read. A refused search is a line too: the only refusal
- * is 14. Every line fits EAS_LINE_ROOM bytes; with less room than the line has, call again with that much. */
+/* The listing line of a spelled name, with its newline: "NAME LETTER Y Z VALUE" or "NAME ! NUMBER", the letter and the
+ * value being the answer's, the name spelled with upper-case digits, or ? where it cannot be read. A refused search is
+ * a line too: the only refusal is 14. Every line fits EAS_LINE_ROOM bytes; with less room than the line has, call again
+ * with that much. */
 eas_text eas_line(const uint8_t *sheet, size_t n, const uint8_t *spelled, size_t m, uint8_t *out, size_t room);
 
 /* The listing program's whole text for a run list: a line, as eas_line has it, for each spelled name, which stand one a

@@ -8,7 +8,7 @@ from pathlib import Path
 
 VECTORS = Path(__file__).resolve().parent.parent / "crates" / "vectors"
 SPELLING = re.compile(rb"([A-Za-z0-9._~-]|%[0-9A-Fa-f]{2})*")
-KINDS = (1, 2)
+KINDS = (1, 2, 3)
 
 
 def number(big_endian):

@@ -1,12 +1,14 @@
 """Judges every line of crates/vectors/stdout that answers a state of crates/vectors/stdin.
 
-Written from document 01, request 1 and tests/listing/*.txt alone. Regions, fits, entropies and refusals are worked out again in whole
-numbers. The three free answers are taken from the line and held to their definitions: a logarithm by decimals of 60 digits,
-each of which the standard library rounds correctly, and as an exact power of ten where these leave a doubt.
+Written from document 01, requests 1 and 3 and tests/listing/*.txt alone. Regions, fits, entropies, pressures and refusals are
+worked out again in whole numbers, a gamma also from the printed numerals with nothing rounded. The three free answers are taken
+from the line and held to their definitions: a logarithm by decimals of 60 digits, each of which the standard library rounds
+correctly, and as an exact power of ten where these leave a doubt.
 A line that is wrong fails, and so does an edge, a piece, a pair of pieces in a join or a refusal that no line visits. Both sides
 of refusal 13's upper edge are visited exactly: G of 19,600,000,000 and of one unit more. No state comes near its lower edge, a G
 of 0. Joins are visited where a mistaken one would show: far from the line between the exponents, and at a Y that is inside a strip
-of one width and outside of the other."""
+of one width and outside of the other. No state has a gamma near 1.01 or 2, or a minus transition's exponent near 0: of refusal 17
+the lines show warnings, judged at each edge by the edge's own band."""
 
 import sys
 from decimal import Decimal, getcontext
@@ -19,29 +21,46 @@ ROOT = Path(__file__).resolve().parent.parent
 VECTORS = ROOT / "crates" / "vectors"
 
 P0, D0, E0, T0, R = 101_330_000_000, 129_200_000_000, 78_408_400, 273_150_000, 28_706
-FIRST = {1: (1, 10**17), 2: (7_840_840, 10**12)}
+FIRST = {1: (1, 10**17), 2: (7_840_840, 10**12), 3: (7_840_840, 10**12)}
 DENSITY = (12_920, 129_200_000_000_000)
 BANDS = ("low", "middle", "high")
 LABELS = {"low": (310, 320, 330, 340), "middle": (360, 370, 380, 390), "high": (410, 420, 430)}
 ENTROPY_LABELS = {"low": 80, "middle": 90, "high": 100}
+GAMMA_LABELS = {"low": (90, 100, 110, 120, 130, 140), "middle": (150, 160, 170, 180, 190), "high": (200, 210, 220, 230)}
 EDGES = (-4_500_000, -500_000)
 STRIPS = ((-4_525_000, -4_475_000), (-505_000, -495_000))
 WINDOW = (-1_000_000, 3_000_000)
 HIGHEST_FIT = 19_600_000_000
 UNITS = 10**10
 TERMS = 128
+LEAST_GAMMA, MOST_GAMMA = 10_100_000_001, 19_999_999_999
+NEAREST_EXPONENT = 500_000_000
+GAMMA_DISTANCE = 100_000
 
 getcontext().prec = 60
 NARROW = Decimal(10) ** -40
 
 
+def nearest(exact):
+    """the nearest whole number, a tie away from zero"""
+    size = (2 * abs(exact) + 1) // 2
+    return size if exact >= 0 else -size
+
+
 def listing(file):
-    """label and name, to the numerals in whole units of 10^-10"""
+    """label and name, to the numerals in units of 10^-10, with nothing rounded, and to a sign as it is"""
     rows = [line.split() for line in (ROOT / "tests" / "listing" / file).read_text().splitlines() if line and line[0] != "#"]
-    return {(int(label), name): [int(Decimal(n) * UNITS) for n in numerals] for label, name, *numerals in rows}
+    exact = lambda name, n: n if name == "SIGN" else Fraction(n) * UNITS
+    return {(int(label), name): [exact(name, n) for n in numerals] for label, name, *numerals in rows}
 
 
-TEMPERATURE, ENTROPY = listing("temperature.txt"), listing("entropy.txt")
+def rounded(rows):
+    return {key: [nearest(n) for n in numerals] for key, numerals in rows.items() if key[1] != "SIGN"}
+
+
+TEMPERATURE, ENTROPY = rounded(listing("temperature.txt")), rounded(listing("entropy.txt"))
+PRINTED_GAMMA = listing("pressure.txt")
+GAMMA = rounded(PRINTED_GAMMA)
 
 
 def ends(name):
@@ -61,11 +80,19 @@ def mul(a, b):
     return a * b // 10**6
 
 
-def bicubic(rows, label, first, y, z):
+def bicubic(rows, label, first, y, z, mul=mul):
     a, b, c, d, e, f, g, h, i, j = (n for k in range(first, first + 4) for n in rows[label, f"GAS{k}"])
     square_y = mul(mul(e + mul(f, z) + mul(g, y), y), y)
     square_z = mul(mul(h + mul(i, y) + mul(j, z), z), z)
     return a + mul(b, y) + mul(c + mul(d, y), z) + square_y + square_z
+
+
+def exponent(rows, label, y, z, mul=mul):
+    """kept within a bound where the listing has one"""
+    a, b, c, d = rows[label, "GAS9"]
+    q = a + mul(b, y) + mul(c, z) + mul(mul(d, y), z)
+    (most,) = rows.get((label, "KEPT"), [abs(q)])
+    return max(-most, min(most, q))
 
 
 # ---- the free answers
@@ -90,14 +117,24 @@ def is_power(g, t):
     return t > 0 and order(t, T0, g - 1) == 1 and order(t, T0, g + 2) == -1
 
 
-def is_weight(q, w):
-    """for every number of terms from 128 up: the sum grows from that of 128 towards the exponential"""
-    size, part = abs(q), w if q >= 0 else UNITS - w
-    terms = sum(size**j * UNITS ** (TERMS - j) * (factorial(TERMS) // factorial(j)) for j in range(TERMS + 1))
-    scale = UNITS**TERMS * factorial(TERMS)
-    first = abs(part - Fraction(UNITS * scale, scale + terms)) <= 10
-    last = abs(part - UNITS / (1 + (Decimal(size) / UNITS).exp())) < 10 - NARROW
-    return 0 <= w <= UNITS and first and last
+def sums(q):
+    """the sum of the series at q units without its sign: up to the term 128, and of all terms, which is the exponential"""
+    size = Fraction(abs(q)) / UNITS
+    top, bottom = size.numerator, size.denominator
+    terms = sum(top**j * bottom ** (TERMS - j) * (factorial(TERMS) // factorial(j)) for j in range(TERMS + 1))
+    return Fraction(terms, bottom**TERMS * factorial(TERMS)), (Decimal(top) / bottom).exp()
+
+
+def ideals(q, minus):
+    """the ideal weight at q units for 128 terms and for all: every number of terms between has one between them"""
+    if minus:
+        return [(s if q < 0 else -1) / (s - 1) for s in sums(q)]
+    return [(s if q < 0 else 1) / (1 + s) for s in sums(q)]
+
+
+def is_weight(q, w, minus=False):
+    first, last = (abs(w - UNITS * ideal) for ideal in ideals(q, minus))
+    return (minus or 0 <= w <= UNITS) and first <= 10 and last < 10 - NARROW
 
 
 # ---- an answer, by the columns of its line
@@ -163,8 +200,7 @@ def fit_at(y, z, weight):
     g = bicubic(TEMPERATURE, label, 1, y, z)
     if piece == 0:
         return place, g, weight == 0
-    c1, c2, c3, c4 = TEMPERATURE[label, "GAS9"]
-    q = c1 + mul(c2, y) + mul(c3, z) + mul(mul(c4, y), z)
+    q = exponent(TEMPERATURE, label, y, z)
     if abs(q) < 4 * UNITS:
         place += " q below 0" if q < 0 else " q above 0"
     return place, g + weight * bicubic(TEMPERATURE, label, 5, y, z) // UNITS, is_weight(q, weight)
@@ -237,6 +273,88 @@ def entropy(a):
     return logs and carries(a, value=want), [place + (" perfect" if a.z <= 650_000 else " fitted")]
 
 
+def gamma_piece(y, z):
+    return sum(z > GAMMA[label, "END"][0] // 10**4 for label in GAMMA_LABELS[band(y)][:-1])
+
+
+def gamma_limit(name):
+    """a Z above it is warned about"""
+    return GAMMA[GAMMA_LABELS[name][-1], "LIMIT"][0] // 10**4
+
+
+def exact_gammas(label, y, z):
+    """with nothing rounded: for 128 terms, and for all"""
+    if (label, "GAMMA") in PRINTED_GAMMA:
+        return PRINTED_GAMMA[label, "GAMMA"]
+    exact = lambda n, m: n * m / 10**6
+    g = bicubic(PRINTED_GAMMA, label, 1, y, z, exact)
+    if (label, "GAS5") not in PRINTED_GAMMA:
+        return [g]
+    second = bicubic(PRINTED_GAMMA, label, 5, y, z, exact)
+    weights = ideals(exponent(PRINTED_GAMMA, label, y, z, exact), is_minus(label))
+    return [g + second * Fraction(weight) for weight in weights]
+
+
+def is_minus(label):
+    """the exponential is taken from 1"""
+    return PRINTED_GAMMA.get((label, "SIGN")) == ["-"]
+
+
+def is_near_zero(label, y, z):
+    return is_minus(label) and abs(exponent(GAMMA, label, y, z)) < NEAREST_EXPONENT
+
+
+def gamma_at(label, y, z, weight):
+    """gamma with a weight, whether both are right, and what the place shows beside its piece"""
+    shown, weighed = "", weight == 0
+    if (label, "GAMMA") in GAMMA:
+        (g,) = GAMMA[label, "GAMMA"]
+    else:
+        g = bicubic(GAMMA, label, 1, y, z)
+    if (label, "GAS5") in GAMMA:
+        q = exponent(GAMMA, label, y, z)
+        g += weight * bicubic(GAMMA, label, 5, y, z) // UNITS
+        weighed = is_weight(q, weight, is_minus(label))
+        if abs(q) < 4 * UNITS:
+            shown = " q below 0" if q < 0 else " q above 0"
+        if [abs(q)] == GAMMA.get((label, "KEPT")):
+            shown = " kept"
+    return g, weighed and all(abs(g - exact) <= GAMMA_DISTANCE for exact in exact_gammas(label, y, z)), shown
+
+
+def pressure_by(a, g):
+    """in micropascal, by the state's own density and energy"""
+    return a.second * a.first * (g - UNITS) // 10**18
+
+
+def pressure(a):
+    logs = a.letter == "P" and a.x == 0 and is_log(a.second, D0, a.y) and is_log(a.first, E0, a.z)
+    strip = strip_of(a.y)
+    ys = strip or (a.y,)
+    pieces = [gamma_piece(y, a.z) + 1 for y in ys]
+    labels = [GAMMA_LABELS[band(y)][piece - 1] for y, piece in zip(ys, pieces)]
+    place = f"P join at {strip[0]}" if strip else f"P {band(a.y)}"
+    warned = [which for which, y in zip(("low", "high"), ys) if a.z > gamma_limit(band(y))]
+    if warned:
+        return logs and carries(a, 17), [f"{place} warned" + (f": {' '.join(warned)}, own {band(a.y)}" if strip else "")]
+    if any(is_near_zero(label, y, a.z) for label, y in zip(labels, ys)):
+        return logs and carries(a, 17), ["P near zero"]
+    judged = [gamma_at(label, y, a.z, edge.weight) for label, y, edge in zip(labels, ys, (a.low, a.high))]
+    edges = [Edge(g, edge.weight) for (g, *_), edge in zip(judged, (a.low, a.high))]
+    right = logs and all(weighed for _, weighed, _ in judged)
+    if any(not LEAST_GAMMA <= edge.fit <= MOST_GAMMA for edge in edges):
+        sides = ["below" if edge.fit < LEAST_GAMMA else "above" if edge.fit > MOST_GAMMA else "inside" for edge in edges]
+        return right and carries(a, 17, 0, *edges), [f"{place} gamma {' '.join(sides)}"]
+    values = [pressure_by(a, edge.fit) for edge in edges]
+    if not strip:
+        return right and carries(a, 0, *values, *edges), [f"{place} piece {pieces[0]}{judged[0][2]}"]
+    low, high = (edge._replace(value=value) for edge, value in zip(edges, values))
+    inside = [f"{place}: pieces {pieces[0]} {pieces[1]}"]
+    if values[0] != values[1]:
+        inside.append(f"{place}: rising" if values[0] < values[1] else f"{place}: falling")
+    return right and carries(a, 0, straight(strip, *values, a.y), low, high), inside
+
+
 def judge(a):
     alone = (a.letter, a.x, a.y, a.z) == ("0", 0, 0, 0)
     if a.kind not in FIRST:
@@ -245,7 +363,7 @@ def judge(a):
         return alone and carries(a, 10), [f"{a.kind} first {a.first}"]
     if not DENSITY[0] <= a.second <= DENSITY[1]:
         return alone and carries(a, 11), [f"{a.kind} second {a.second}"]
-    return (temperature if a.kind == 1 else entropy)(a)
+    return {1: temperature, 2: entropy, 3: pressure}[a.kind](a)
 
 
 # ---- the places that some line must visit
@@ -261,12 +379,41 @@ def pairs(strip):
     return sorted({tuple(piece_of(y, z) + 1 for y in strip) for z in zs})
 
 
+def gamma_suffixes(label):
+    """what the lines of a piece must show: an exponent far from 0, near it on either side, kept within its bound"""
+    if (label, "GAS5") not in GAMMA:
+        return [""]
+    if is_minus(label):
+        return ["", " q above 0"]
+    return ["", " q below 0", " q above 0"] + [" kept"] * ((label, "KEPT") in GAMMA)
+
+
+def gamma_ends(name):
+    return [GAMMA[label, "END"][0] // 10**4 for label in GAMMA_LABELS[name][:-1]]
+
+
+def pressure_places():
+    yield from (f"P y {y}" for y in (-7_000_000, *both_sides(*EDGES), 3_000_000))
+    for name, labels in GAMMA_LABELS.items():
+        yield from (f"P {name} piece {k}{shown}" for k, label in enumerate(labels, 1) for shown in gamma_suffixes(label))
+        yield from (f"P {name} z {z}" for z in (-1_000_000, *both_sides(*gamma_ends(name), gamma_limit(name))))
+        yield f"P {name} warned"
+    for strip in STRIPS:
+        names, place = [band(y) for y in strip], f"P join at {strip[0]}"
+        limits = [gamma_limit(name) for name in names]
+        zs = [z for name in names for z in both_sides(*gamma_ends(name)) if z <= min(limits)]
+        yield from {f"{place}: pieces {' '.join(str(gamma_piece(y, z) + 1) for y in strip)}" for z in zs}
+        yield from (f"{place}: {way}" for way in ("rising", "falling"))
+        yield from (f"{place} warned: {which}, own {name}" for which in ("high", "low high") for name in names)
+        yield from (f"{place} z {z}" for z in both_sides(*limits))
+
+
 def join_places():
     yield from (f"T join beyond: {which}" for which in ("low", "high", "low high"))
     for strip in STRIPS:
         yield from (f"T join at {strip[0]}: pieces {low} {high}" for low, high in pairs(strip))
         yield f"T join at {strip[0]}: far from the line between exponents"
-    for letter in "TS":
+    for letter in "TSP":
         yield from (f"{letter} y {y}" for strip in STRIPS for edge in strip for y in (edge - 1, edge, edge + 1))
     yield from (f"T y {y}" for y in (-4_490_000, -510_000))
 
@@ -279,6 +426,7 @@ def places():
     yield from (f"T y {y}" for y in both_sides(*EDGES))
     yield from (f"T fit {g}" for g in both_sides(HIGHEST_FIT))
     yield from join_places()
+    yield from pressure_places()
     for name in BANDS:
         yield f"T {name} piece 1"
         yield from (f"T {name} piece {k}{q}" for k in range(2, len(LABELS[name]) + 1) for q in ("", " q below 0", " q above 0"))
@@ -289,6 +437,8 @@ def places():
 
 
 def main():
+    if [nearest(Fraction(n, 2)) for n in (-3, -1, 0, 1, 3)] != [-2, -1, 0, 1, 2]:
+        sys.exit("a tie is rounded away from zero")
     cases = (VECTORS / "stdin").read_text().splitlines()
     lines = (VECTORS / "stdout").read_text().splitlines()
     if len(cases) != len(lines):
@@ -302,6 +452,7 @@ def main():
         if case != f"state {a.kind} {a.first} {a.second}" or not right:
             sys.exit(f"{here}: {case}: {line}")
         visited |= {*here, f"{a.letter} y {a.y}", f"{a.letter} {band(a.y)} z {a.z}", f"{a.letter} fit {a.low.fit}"}
+        visited |= {f"{a.letter} join at {strip[0]} z {a.z}" for strip in STRIPS if strip == strip_of(a.y)}
         count += 1
     missing = [place for place in places() if place not in visited]
     if missing:

@@ -59,6 +59,10 @@ static uint64_t number_at(const uint8_t *from) {
     return number;
 }
 
+static inline int is_known(uint8_t kind) {
+    return kind >= 1 && kind <= 3;
+}
+
 /* The refusal of the record at *at, or 0 with *at moved past it. */
 static inline uint32_t check_record(table *t, const uint8_t *sheet, size_t n, size_t *at) {
     if (*at >= n)
@@ -68,8 +72,7 @@ static inline uint32_t check_record(table *t, const uint8_t *sheet, size_t n, si
         return 5;
     if (n - *at < 1 + length + 17)
         return 4;
-    uint8_t kind = sheet[*at + 1 + length];
-    if (kind != 1 && kind != 2)
+    if (!is_known(sheet[*at + 1 + length]))
         return 6;
     if (!add(t, sheet, (uint32_t)*at))
         return 16;
@@ -226,14 +229,44 @@ static baseline_answer entropy(uint64_t energy, uint64_t density) {
     return a;
 }
 
+/* Gamma less one by a band's fit; sets the refusal where gamma is beyond its limits. */
+static double less_one(int band, double y, double z, uint32_t *number) {
+    double gamma = tgas1_gamma(tgas1_gamma_parts(band, y, z));
+    if (gamma <= (double)BELOW_GAMMA / 1e10 || gamma >= (double)ABOVE_GAMMA / 1e10)
+        *number = 17;
+    return gamma - 1;
+}
+
+/* Whether a band's fit has a minus transition with an exponent near 0. */
+static int near_zero(int band, double y, double z) {
+    tgas_parts parts = tgas1_gamma_parts(band, y, z);
+    return parts.weighted < 0 && fabs(parts.exponent) < (double)LEAST_MINUS_EXPONENT / 1e10;
+}
+
+static baseline_answer pressure(uint64_t energy, uint64_t density) {
+    double y = log10((double)density / (double)STANDARD_DENSITY), z = log10((double)energy / (double)STANDARD_ENERGY);
+    double product = (double)density * (double)energy * 1e-8;
+    baseline_answer a = {0, 'P', y, z, 0};
+    tgas_strip s = {y, y, tgas_band(y)};
+    int joined = tgas_strip_at(y, &s), above = s.below + joined;
+    if (z > MILLIONTHS(pressure_most_z(above)) || near_zero(s.below, s.low, z) ||
+        (joined && near_zero(above, s.high, z))) {
+        a.number = 17;
+        return a;
+    }
+    double low = less_one(s.below, s.low, z, &a.number);
+    a.value = product * (joined ? tgas_line(&s, y, low, less_one(above, s.high, z, &a.number)) : low);
+    return a;
+}
+
 static baseline_answer evaluate(uint8_t kind, uint64_t first, uint64_t second) {
-    if (kind != 1 && kind != 2)
+    if (!is_known(kind))
         return (baseline_answer){.number = 6};
     if (kind == 1 ? first < LEAST_PRESSURE || first > MOST_PRESSURE : first < LEAST_ENERGY || first > MOST_ENERGY)
         return (baseline_answer){.number = 10};
     if (second < LEAST_DENSITY || second > MOST_DENSITY)
         return (baseline_answer){.number = 11};
-    return kind == 1 ? temperature(first, second) : entropy(first, second);
+    return kind == 1 ? temperature(first, second) : kind == 2 ? entropy(first, second) : pressure(first, second);
 }
 
 static baseline_answer answer_of(eas_record record) {

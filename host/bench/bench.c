@@ -1,9 +1,9 @@
 /* bench [STATES [LISTING-PROGRAM]]: times the library and a plain C baseline side by side and prints a Markdown table.
  *
- * Temperature and entropy are measured against the listing in doubles with libm, the rest against a calculator in plain
- * C that makes the same checks and finds names by chained hashing. Each row is the median of several repetitions, in
- * which library and baseline take turns, and nothing is judged by time. With a listing program given, that program is
- * run on many names against this one run as a listing. */
+ * Temperature, entropy and pressure are measured against the listing in doubles with libm, the rest against a
+ * calculator in plain C that makes the same checks and finds names by chained hashing. Each row is the median of
+ * several repetitions, in which library and baseline take turns, and nothing is judged by time. With a listing program
+ * given, that program is run on many names against this one run as a listing. */
 #include <fcntl.h>
 #include <math.h>
 #include <spawn.h>
@@ -32,7 +32,7 @@ typedef struct {
 } text;
 
 static size_t states;
-static pair *temperatures, *entropies, *singles, *joins;
+static pair *temperatures, *entropies, *pressures, *singles, *joins, *single_pressures, *joined_pressures;
 static uint8_t small_sheet[SHEET_MOST + 1], full_sheet[SHEET_MOST];
 static size_t small_size, full_size;
 static text small_names[3], full_names[NAMES];
@@ -52,7 +52,7 @@ static pair *room_for_states(void) {
     return room;
 }
 
-/* Where temperatures lie: two thirds of any are fitted, all of those outside the strips or inside them. */
+/* Where states lie: anywhere, fitted outside the strips, or fitted inside them. */
 typedef enum { ANY, OUTSIDE, INSIDE } where;
 
 static int is_there(const eas_answer *a, where w) {
@@ -72,35 +72,38 @@ static double random_y(random_source *r, where w) {
     return middle + half * (2 * random_unit(r) - 1);
 }
 
-/* Every state is accepted. */
-static pair *make_temperatures(random_source *r, where w) {
-    pair *made = room_for_states();
-    for (size_t i = 0; i < states;) {
-        double y = random_y(r, w);
-        double z = w != ANY || i % 3 ? 0.2500015 + 2.3 * random_unit(r) : -0.99 + 1.23 * random_unit(r);
-        made[i] = (pair){scaled(STANDARD_PRESSURE, y + z), scaled(STANDARD_DENSITY, y)};
-        eas_answer a = eas_evaluate(1, made[i].first, made[i].second);
-        i += a.number == 0 && is_there(&a, w);
-    }
-    return made;
+/* z of a state: two thirds of any temperatures are fitted, two thirds of any pressures by more than a constant; all are
+ * where a place is asked for. An entropy goes over all of its range. */
+static double random_z(random_source *r, uint32_t kind, where w, size_t i) {
+    double constant = kind == 1 ? MILLIONTHS(PERFECT_Z) : MILLIONTHS(pressure_end[LOW][0]);
+    double range = kind == 1 ? 2.3 : 3.04;
+    if (kind == 2)
+        return -0.99 + 4.6 * random_unit(r);
+    return w != ANY || i % 3 ? constant + 1.5e-6 + range * random_unit(r) : -0.99 + (constant + 0.98) * random_unit(r);
 }
 
-static pair *make_entropies(random_source *r) {
+/* Every state is accepted. */
+static pair *make_kind(random_source *r, uint32_t kind, where w) {
     pair *made = room_for_states();
     for (size_t i = 0; i < states;) {
-        double y = random_y(r, ANY), z = -0.99 + 4.6 * random_unit(r);
-        made[i] = (pair){scaled(STANDARD_ENERGY, z), scaled(STANDARD_DENSITY, y)};
-        i += eas_evaluate(2, made[i].first, made[i].second).number == 0;
+        double y = random_y(r, w), z = random_z(r, kind, w, i);
+        uint64_t first = kind == 1 ? scaled(STANDARD_PRESSURE, y + z) : scaled(STANDARD_ENERGY, z);
+        made[i] = (pair){first, scaled(STANDARD_DENSITY, y)};
+        eas_answer a = eas_evaluate(kind, made[i].first, made[i].second);
+        i += a.number == 0 && is_there(&a, w);
     }
     return made;
 }
 
 static void make_states(void) {
     random_source r = random_case(SEED, 0, 0);
-    temperatures = make_temperatures(&r, ANY);
-    entropies = make_entropies(&r);
-    singles = make_temperatures(&r, OUTSIDE);
-    joins = make_temperatures(&r, INSIDE);
+    temperatures = make_kind(&r, 1, ANY);
+    entropies = make_kind(&r, 2, ANY);
+    singles = make_kind(&r, 1, OUTSIDE);
+    joins = make_kind(&r, 1, INSIDE);
+    pressures = make_kind(&r, 3, ANY);
+    single_pressures = make_kind(&r, 3, OUTSIDE);
+    joined_pressures = make_kind(&r, 3, INSIDE);
 }
 
 static void make_small_sheet(void) {
@@ -120,8 +123,9 @@ static void make_full_sheet(void) {
         uint8_t name[2];
         size_t length = i < 256 ? 1 : 2;
         put_number(name, (int)length, i < 256 ? i : i - 256);
-        pair p = i % 2 == 0 ? temperatures[i % states] : entropies[i % states];
-        full_size = append_record(full_sheet, full_size, name, length, i % 2 == 0 ? 1 : 2, p.first, p.second);
+        const pair *const of_kind[] = {temperatures, entropies, pressures};
+        pair p = of_kind[i % 3][i % states];
+        full_size = append_record(full_sheet, full_size, name, length, (uint8_t)(1 + i % 3), p.first, p.second);
     }
 }
 
@@ -168,6 +172,12 @@ JOB(library_join, states, eas_evaluate(1, joins[i].first, joins[i].second).value
 JOB(listing_join, states, tgas1_temperature(joins[i].first, joins[i].second))
 JOB(library_entropy, states, eas_evaluate(2, entropies[i].first, entropies[i].second).value)
 JOB(listing_entropy, states, tgas2_entropy(entropies[i].first, entropies[i].second))
+JOB(library_pressure, states, eas_evaluate(3, pressures[i].first, pressures[i].second).value)
+JOB(listing_pressure, states, tgas1_pressure(pressures[i].first, pressures[i].second))
+JOB(library_single_pressure, states, eas_evaluate(3, single_pressures[i].first, single_pressures[i].second).value)
+JOB(listing_single_pressure, states, tgas1_pressure(single_pressures[i].first, single_pressures[i].second))
+JOB(library_joined_pressure, states, eas_evaluate(3, joined_pressures[i].first, joined_pressures[i].second).value)
+JOB(listing_joined_pressure, states, tgas1_pressure(joined_pressures[i].first, joined_pressures[i].second))
 JOB(library_search_small, SMALL_CALLS, eas_search(SMALL).value)
 JOB(baseline_search_small, SMALL_CALLS, baseline_search(SMALL).value)
 JOB(library_search_full, FULL_CALLS, eas_search(FULL).value)
@@ -325,13 +335,18 @@ int main(int argc, char **argv) {
         {"temperature, fitted outside the strips", "ns", library_single, listing_single, (double)states, 1e9},
         {"temperature, joined in a strip", "ns", library_join, listing_join, (double)states, 1e9},
         {"entropy", "ns", library_entropy, listing_entropy, (double)states, 1e9},
+        {"pressure", "ns", library_pressure, listing_pressure, (double)states, 1e9},
+        {"pressure, fitted outside the strips", "ns", library_single_pressure, listing_single_pressure, (double)states,
+         1e9},
+        {"pressure, joined in a strip", "ns", library_joined_pressure, listing_joined_pressure, (double)states, 1e9},
         {"search, sheet of 3 states", "ns", library_search_small, baseline_search_small, SMALL_CALLS, 1e9},
         {"search, fullest sheet", "µs", library_search_full, baseline_search_full, FULL_CALLS, 1e6},
         {"listing line, sheet of 3 states", "ns", library_line, plain_line, SMALL_CALLS, 1e9},
         {lines_title, "ms", library_lines, plain_lines, 1, 1e3},
         {list_title, "ms", library_list, plain_list, 1, 1e3},
     };
-    printf("%zu temperatures, two thirds fitted, as many fitted outside the strips and joined in them, and entropies; ",
+    printf("%zu temperatures, two thirds fitted, as many fitted outside the strips and joined in them, as many "
+           "entropies, and pressures as temperatures; ",
            states);
     printf("the fullest sheet has %u states in %zu bytes.\n", record_count(full_sheet), full_size);
     printf("Processor time: median of %d repetitions (least to most).\n\n", REPETITIONS);

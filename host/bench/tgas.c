@@ -38,6 +38,10 @@ static inline tgas_parts weighted(double a, double b, double exponent) {
     return (tgas_parts){a, b, exponent, 1};
 }
 
+static inline tgas_parts weighted_minus(double a, double b, double exponent) {
+    return (tgas_parts){a, b, exponent, -1};
+}
+
 /* Labels 310 to 340. */
 static inline tgas_parts low_parts(double y, double z) {
     if (z <= MILLIONTHS(piece_end[LOW][0]))
@@ -108,8 +112,102 @@ tgas_parts tgas1_parts(int band, double y, double z) {
     return band == LOW ? low_parts(y, z) : band == MIDDLE ? middle_parts(y, z) : high_parts(y, z);
 }
 
+/* The exponent of label 230. */
+static inline double kept(double exponent) {
+    return exponent > 30 ? 30 : exponent < -30 ? -30 : exponent;
+}
+
+/* Labels 90 to 140. */
+static inline tgas_parts low_gamma(double y, double z) {
+    if (z <= MILLIONTHS(pressure_end[LOW][0]))
+        return single(1.3965);
+    if (z <= MILLIONTHS(pressure_end[LOW][1]))
+        return weighted_minus(BICUBIC(1.52792, -1.26953e-02, -6.13514e-01, -5.08262e-02, -5.49384e-03, 4.75120e-05,
+                                      -3.18468e-04, 6.31835e-01, 3.34012e-02, -2.19921e-01),
+                              BICUBIC(-4.96286e01, -1.17932e01, 6.91028e01, 4.40405e01, 5.09249, -1.40326, 2.08988e-01,
+                                      1.37308e01, -1.78726e01, -1.86943e01),
+                              24.60452 - 2.0 * y - 2.093022e01 * z);
+    if (z <= MILLIONTHS(pressure_end[LOW][2]))
+        return weighted(BICUBIC(-1.70333e01, -5.08545e-01, 2.46299e01, 4.45617e-01, -8.95298e-03, 2.29618e-03,
+                                -2.89186e-04, -1.10204e01, -9.89727e-02, 1.62903),
+                        BICUBIC(1.86797e01, 5.19662e-01, -2.41338e01, -4.34837e-01, 9.16089e-03, -1.52082e-03,
+                                3.46482e-04, 1.02035e01, 9.70762e-02, -1.39460),
+                        EXPONENT(-1.42762e02, -1.647088, 7.660312e01, 8.259346e-01));
+    if (z <= MILLIONTHS(pressure_end[LOW][3]))
+        return weighted(BICUBIC(2.24374, 1.03073e-01, -5.32238e-01, -5.59852e-02, 3.56484e-03, -1.01359e-04,
+                                1.59127e-04, -4.80156e-02, 1.06794e-02, 3.66035e-02),
+                        BICUBIC(-5.70378, -3.10056e-01, 5.01094, 1.80411e-01, -9.49361e-03, 1.94839e-03, -2.24908e-04,
+                                -1.40331, -2.79718e-02, 1.20278e-01),
+                        EXPONENT(1.139755e02, -4.985467, -4.223833e01, 2.009706));
+    if (z <= MILLIONTHS(pressure_end[LOW][4]))
+        return weighted(BICUBIC(-0.20807e02, 0.40197, 0.22591e02, -0.25660, -0.95833e-03, 0.23966e-02, 0.33671e-03,
+                                -0.77174e01, 0.4606e-01, 0.878),
+                        BICUBIC(-0.21737e03, -0.46927e01, 0.18101e03, 0.26621e01, -0.34759e-01, 0.64681e-02,
+                                -0.70391e-03, -0.50019e02, -0.38381, 0.45795e01),
+                        EXPONENT(0.4544373e03, 0.1250133e02, -0.1376001e03, -0.3641774e01));
+    return single(BICUBIC(-5.22951e01, -4.00011e-01, 4.56439e01, 2.24484e-01, -3.73775e-03, 2.43161e-03, 2.24755e-04,
+                          -1.29756e01, -2.79517e-02, 1.22998));
+}
+
+/* Labels 150 to 190. */
+static inline tgas_parts middle_gamma(double y, double z) {
+    if (z <= MILLIONTHS(pressure_end[MIDDLE][0]))
+        return single(1.398);
+    if (z <= MILLIONTHS(pressure_end[MIDDLE][1]))
+        return weighted(BICUBIC(1.39123, -4.08321e-03, 1.42545e-02, 1.41769e-02, 2.57225e-04, 6.52912e-04, 8.46912e-05,
+                                6.2555e-02, -7.83637e-03, -9.78720e-02),
+                        BICUBIC(5.80955, -1.82302e-01, -9.62396, 1.79619e-01, -2.30518e-02, 1.18720e-02, -3.35499e-04,
+                                5.27047, -3.65507e-02, -9.19897e-01),
+                        14.2 - 10.0 * z);
+    if (z <= MILLIONTHS(pressure_end[MIDDLE][2]))
+        return weighted(BICUBIC(-1.20784, -2.57909e-01, 5.02307, 2.87201e-01, -9.95577e-03, 5.23524e-03, -1.45574e-04,
+                                -3.20619, -7.50405e-02, 6.51564e-01),
+                        BICUBIC(-6.62841, 2.77112e-02, 7.30762, -7.68230e-02, 7.19421e-03, -3.62463e-03, 1.62777e-04,
+                                -2.33161, 3.04767e-02, 1.66856e-01),
+                        EXPONENT(1.255324e02, 2.015335, -6.390747e01, -6.515225e-01));
+    if (z <= MILLIONTHS(pressure_end[MIDDLE][3]))
+        return weighted(BICUBIC(-2.26460, -7.82263e-02, 4.90497, 7.18096e-02, -3.06443e-03, 1.74209e-03, 2.84214e-05,
+                                -2.24750, -1.31641e-02, 3.33658e-01),
+                        BICUBIC(-1.47904e01, -1.76627e-01, 1.35036e01, 8.77280e-02, -2.13327e-03, 7.15487e-04,
+                                7.30928e-05, -3.95372, -8.96151e-03, 3.63229e-01),
+                        EXPONENT(1.788542e02, 6.317894, -6.756741e01, -2.460060));
+    return weighted(BICUBIC(-1.66904e01, -2.58318e-01, 1.78350e01, 1.54898e-01, -9.71263e-03, 3.97740e-03, 9.04300e-05,
+                            -5.94108, -2.01335e-02, 6.60432e-01),
+                    BICUBIC(8.54690e01, 1.17554e01, -7.21760e01, -7.15723, -4.16150e-02, 1.38147e-02, 5.45184e-04,
+                            2.01758e01, 1.08990, -1.86438),
+                    EXPONENT(2.883262e02, 1.248536e01, -8.816985e01, -3.720309));
+}
+
+/* Labels 200 to 230. */
+static inline tgas_parts high_gamma(double y, double z) {
+    if (z <= MILLIONTHS(pressure_end[HIGH][0]))
+        return single(1.3988);
+    if (z <= MILLIONTHS(pressure_end[HIGH][1]))
+        return single(BICUBIC(1.37062, 1.29673e-02, 1.11418e-01, -3.26912e-02, 1.06869e-03, -2.00286e-03, 2.38305e-04,
+                              -1.06133e-01, 1.90251e-02, 3.02210e-03));
+    if (z <= MILLIONTHS(pressure_end[HIGH][2]))
+        return weighted(BICUBIC(3.43846e-02, -2.33584e-01, 2.85574, 2.59787e-01, -10.89927e-03, 4.23659e-03,
+                                3.85712e-04, -1.94785, -6.73865e-02, 4.08518e-01),
+                        BICUBIC(-4.20569, 1.33139e-01, 4.51236, -1.66341e-01, 1.67787e-03, -1.10022e-03, 3.06676e-04,
+                                -1.35516, 4.91716e-02, 7.52509e-02),
+                        EXPONENT(1.757042e02, -2.163278, -8.833702e01, 1.897543));
+    return weighted(BICUBIC(-1.70633, -1.48403e-01, 4.23104, 1.37290e-01, -9.10934e-03, 3.85707e-03, 2.69026e-04,
+                            -1.97292, -2.81830e-02, 2.95882e-01),
+                    BICUBIC(3.41580e01, -1.89972e01, -4.0858e01, 1.30321e01, -8.01272e-01, 2.75121e-01, -1.77969e-04,
+                            1.60826e01, -2.23386, -2.08853),
+                    kept(EXPONENT(2.561323e02, 1.737089e02, -9.058890e01, -5.838803e01)));
+}
+
+tgas_parts tgas1_gamma_parts(int band, double y, double z) {
+    return band == LOW ? low_gamma(y, z) : band == MIDDLE ? middle_gamma(y, z) : high_gamma(y, z);
+}
+
 double tgas1_fit(tgas_parts parts) {
     return parts.weighted ? parts.a + parts.b / (1 + exp(parts.exponent)) : parts.a;
+}
+
+double tgas1_gamma(tgas_parts parts) {
+    return parts.weighted < 0 ? parts.a + parts.b / (1 - exp(parts.exponent)) : tgas1_fit(parts);
 }
 
 double tgas2_plain(int band, double y, double z) {
@@ -146,6 +244,20 @@ double tgas1_temperature(uint64_t pressure, uint64_t density) {
     if (!tgas_strip_at(y, &s))
         return kelvin(tgas_band(y), y, z);
     return tgas_line(&s, y, kelvin(s.below, s.low, z), kelvin(s.below + 1, s.high, z));
+}
+
+/* P over E and R of a band's fit. */
+static double less_one(int band, double y, double z) {
+    return tgas1_gamma(tgas1_gamma_parts(band, y, z)) - 1;
+}
+
+double tgas1_pressure(uint64_t energy, uint64_t density) {
+    double e = (double)energy * 1e-3, r = (double)density * 1e-11;
+    double y = log10(r / R0), z = log10(e / E0);
+    tgas_strip s;
+    if (!tgas_strip_at(y, &s))
+        return less_one(tgas_band(y), y, z) * e * r;
+    return tgas_line(&s, y, less_one(s.below, s.low, z) * e * r, less_one(s.below + 1, s.high, z) * e * r);
 }
 
 double tgas2_entropy(uint64_t energy, uint64_t density) {

@@ -2,7 +2,7 @@
  *
  * An input is: one byte of options, one byte with the length of a spelled name, the spelled name, and a sheet.
  *   option 1  the sheet's mark, version and count are put right
- *   option 2  each record's kind is made 1 or 2
+ *   option 2  each record's kind is made 1, 2 or 3
  *   option 4  each record's values are brought into their ranges
  *   option 8  the spelled name is that of a record, chosen by the length byte
  *   all eight options set: records are added up to the largest sheet or just past it
@@ -48,8 +48,8 @@ static void repair_range(uint8_t *at, uint64_t least, uint64_t most) {
 static void repair_records(uint8_t *sheet, size_t n, unsigned options) {
     for (size_t at = HEAD; whole_record(sheet, n, at); at += 1u + sheet[at] + 17u) {
         uint8_t *rest = sheet + at + 1 + sheet[at];
-        if (options & 2 && rest[0] != 1 && rest[0] != 2)
-            rest[0] = rest[0] % 2 + 1;
+        if (options & 2 && (rest[0] < 1 || rest[0] > 3))
+            rest[0] = rest[0] % 3 + 1;
         if (!(options & 4))
             continue;
         if (rest[0] == 1)
@@ -103,7 +103,8 @@ static void check_find(query q, const eas_record *found) {
 static void check_mark(query q, const eas_answer *a) {
     eas_mark mark = eas_plot(q.sheet, q.n, q.spelled, q.m);
     require(mark.blank == a->number, "a mark is blank exactly where the search refuses");
-    double across = a->number ? 0 : (double)a->y + 7000000, up = a->number ? 0 : (double)a->value;
+    int64_t value = a->letter == 'P' ? a->value / 1000000 : a->value;
+    double across = a->number ? 0 : (double)a->y + 7000000, up = a->number ? 0 : (double)value;
     require(mark.point.across == across && mark.point.up == up, "a mark's point");
 }
 

@@ -1,9 +1,10 @@
-/* Judges a whole answer for a state: allowed by document 01 or not. */
+/* Judges a whole answer for a state: allowed by document 01 and request 3, or not. */
 #ifndef REFERENCE_ANSWER_H
 #define REFERENCE_ANSWER_H
 
 #include "airstate.h"
 #include "fit.h"
+#include "kinds.h"
 
 #define P0 UINT64_C(101330000000)
 #define D0 UINT64_C(129200000000)
@@ -24,6 +25,12 @@
 /* Null where the answer is allowed; else a short text that names what is wrong. Beyond each field's own rule this
  * checks the distances of demand 3 on accepted answers. */
 const char *judge_answer(uint32_t kind, uint64_t first, uint64_t second, const eas_answer *answer);
+
+/* Whether the first value of a known kind is in its range. */
+bool first_in_range(uint32_t kind, uint64_t first);
+
+/* Whether a fit is beyond the limits within which its property is shown. */
+bool fit_beyond(fitted_property of, int64_t fit);
 
 /* Null where two answers are equal field by field; else the field that differs. */
 const char *answers_differ(const eas_answer *a, const eas_answer *b);

@@ -2,8 +2,11 @@
 
 #include "weight.h"
 
-/* Units of 10^-10; and how many units of 10^-28 are one of 10^-10 and one millionth. */
-enum { FIT_DISTANCE = 10000, UNIT_ZEROS = 18, MILLIONTH_ZEROS = 22 };
+/* How far a fit may be from the exact one, in units of 10^-10: an exponent of a temperature, a gamma. */
+static const int64_t distances[FITTED] = {[TEMPERATURE] = 10000, [PRESSURE] = 100000};
+
+/* How many units of 10^-28 are one of 10^-10 and one millionth. */
+enum { UNIT_ZEROS = 18, MILLIONTH_ZEROS = 22 };
 
 typedef struct {
     mpfr_t low, high; /* bounds of the exact fit in units of 10^-28 */
@@ -56,24 +59,33 @@ static int64_t whole_millionths(const mpfr_t fit) {
     return k;
 }
 
+/* What is claimed. */
+typedef struct {
+    int64_t fit, distance;
+    ratio_logarithm *kelvin; /* null: nothing of a temperature */
+} claim;
+
 /* Null: holds. *open is set where bounds that are farther from the value than needed leave it undecided. */
-static const char *claim_at(const exact_fit *fit, int64_t g, ratio_logarithm *kelvin, bool last, bool *open) {
-    int under = compare_fit(fit, g - FIT_DISTANCE, UNIT_ZEROS), over = compare_fit(fit, g + FIT_DISTANCE, UNIT_ZEROS);
+static const char *claim_at(const exact_fit *exact, const claim *c, bool last, bool *open) {
+    int under = compare_fit(exact, c->fit - c->distance, UNIT_ZEROS);
+    int over = compare_fit(exact, c->fit + c->distance, UNIT_ZEROS);
     if (under < 0 || over > 0)
-        return "G is over 10,000 units from the exact fit";
-    int64_t k = whole_millionths(fit->high);
-    bool exact = mpfr_equal_p(fit->low, fit->high);
-    *open = !exact && !last && (under == 0 || over == 0 || whole_millionths(fit->low) != k);
-    if (*open)
+        return "the fit is too far from the exact one";
+    int64_t k = whole_millionths(exact->high);
+    bool parted = c->kelvin != NULL && whole_millionths(exact->low) != k;
+    *open = !mpfr_equal_p(exact->low, exact->high) && !last && (under == 0 || over == 0 || parted);
+    if (*open || c->kelvin == NULL)
         return NULL;
-    if (logarithm_compare(kelvin, k - 2) <= 0 || logarithm_compare(kelvin, k + 3) >= 0)
+    if (logarithm_compare(c->kelvin, k - 2) <= 0 || logarithm_compare(c->kelvin, k + 3) >= 0)
         return "temperature is outside demand 3's powers of ten";
     return NULL;
 }
 
-const char *fit_claim(const temperature_piece *piece, int64_t y, int64_t z, int64_t fit, ratio_logarithm *kelvin) {
+const char *fit_claim(fitted_property of, int64_t y, int64_t z, int64_t fit, ratio_logarithm *kelvin) {
+    const fit_piece *piece = piece_at(of, y, z);
+    const claim claimed = {fit, distances[of], kelvin};
     wide a = exact_bicubic(piece->a, y, z), b = piece->weighed ? exact_bicubic(piece->b, y, z) : 0;
-    wide q = piece->weighed ? exact_exponent(piece->exponent, y, z) : 0;
+    transition t = {piece->minus, piece->weighed ? exact_exponent(piece, y, z) : 0, EXACT_EXPONENT_DECIMALS};
     const char *wrong = NULL;
     bool open = true;
     exact_fit exact;
@@ -81,11 +93,11 @@ const char *fit_claim(const temperature_piece *piece, int64_t y, int64_t z, int6
     mpfr_inits2(FIRST_WEIGHT_PRECISION, exact.low, exact.high, (mpfr_ptr)0);
     weights_init(&weights);
     for (mpfr_prec_t p = FIRST_WEIGHT_PRECISION; open && wrong == NULL; p *= 4) {
-        weights_of(&weights, q, EXACT_EXPONENT_DECIMALS, p);
+        weights_of(&weights, t, p);
         open = false;
         for (int i = 0; i < TERM_COUNTS && !open && wrong == NULL; i++) {
             enclose_fit(&exact, a, b, weights.low[i], weights.high[i]);
-            wrong = claim_at(&exact, fit, kelvin, p >= LAST_WEIGHT_PRECISION, &open);
+            wrong = claim_at(&exact, &claimed, p >= LAST_WEIGHT_PRECISION, &open);
         }
     }
     weights_clear(&weights);

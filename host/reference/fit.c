@@ -1,8 +1,9 @@
 #include "fit.h"
 
+#include <math.h>
 #include <stddef.h>
 
-static temperature_piece pieces[BANDS][PIECES];
+static fit_piece pieces[FITTED][BANDS][PIECES];
 static int64_t entropy_rows[BANDS][BICUBIC_TERMS];
 
 static void read_numerals(int64_t *out, const char *const *numerals, int count) {
@@ -10,23 +11,24 @@ static void read_numerals(int64_t *out, const char *const *numerals, int count) 
         out[i] = numerals[i] == NULL ? 0 : numeral_units(numerals[i]);
 }
 
+static void read_piece(fit_piece *to, const printed_piece *from) {
+    to->label = from->label;
+    to->upper = from->upper;
+    to->weighed = from->b[0] != NULL;
+    to->minus = from->minus;
+    to->kept = from->kept == NULL ? 0 : numeral_units(from->kept);
+    read_numerals(to->a, from->a, BICUBIC_TERMS);
+    read_numerals(to->b, from->b, BICUBIC_TERMS);
+    read_numerals(to->exponent, from->exponent, EXPONENT_TERMS);
+}
+
 static void read_tables_once(void) {
     static bool done;
     if (done)
         return;
     for (int band = 0; band < BANDS; band++) {
-        for (int i = 0; i < PIECES; i++) {
-            const printed_piece *from = &printed_temperature[band][i];
-            temperature_piece *to = &pieces[band][i];
-            if (from->label == 0)
-                continue;
-            to->label = from->label;
-            to->upper = from->upper;
-            to->weighed = from->b[0] != NULL;
-            read_numerals(to->a, from->a, BICUBIC_TERMS);
-            read_numerals(to->b, from->b, BICUBIC_TERMS);
-            read_numerals(to->exponent, from->exponent, EXPONENT_TERMS);
-        }
+        for (int i = 0; i < FITTED * PIECES; i++)
+            read_piece(&pieces[i / PIECES][band][i % PIECES], &printed_pieces[i / PIECES][band][i % PIECES]);
         read_numerals(entropy_rows[band], printed_entropy[band], BICUBIC_TERMS);
     }
     done = true;
@@ -60,13 +62,21 @@ int64_t entropy_limit(density_band band) {
     return band == LOW_BAND ? 3690000 : band == MIDDLE_BAND ? 3400000 : 3000000;
 }
 
-const temperature_piece *piece_at(int64_t y, int64_t z) {
-    read_tables_once();
-    density_band band = band_of(y);
+int piece_place(fitted_property of, int64_t y, int64_t z) {
+    const printed_piece *piece = printed_pieces[of][band_of(y)];
     int i = 0;
-    while (z > printed_temperature[band][i].upper)
+    while (z > piece[i].upper && i + 1 < PIECES && piece[i + 1].label != 0)
         i++;
-    return &pieces[band][i];
+    return i;
+}
+
+int64_t fit_limit(fitted_property of, int64_t y) {
+    return printed_pieces[of][band_of(y)][piece_place(of, y, INT64_MAX)].upper;
+}
+
+const fit_piece *piece_at(fitted_property of, int64_t y, int64_t z) {
+    read_tables_once();
+    return &pieces[of][band_of(y)][piece_place(of, y, z)];
 }
 
 const int64_t *entropy_coefficients(density_band band) {
@@ -87,15 +97,29 @@ wide bicubic(const int64_t c[BICUBIC_TERMS], int64_t y, int64_t z) {
     return constant + by_z + by_yy + by_zz;
 }
 
-wide exponent(const int64_t c[EXPONENT_TERMS], int64_t y, int64_t z) {
-    return c[0] + mul(c[1], y) + mul(c[2], z) + mul(mul(c[3], y), z);
+/* The number of that size or less that is nearest to q; q where the size is 0. */
+static wide keep(wide q, wide size) {
+    return size == 0 ? q : q > size ? size : q < -size ? -size : q;
 }
 
-wide fitted(const temperature_piece *piece, int64_t y, int64_t z, int64_t weight) {
+wide exponent(const fit_piece *piece, int64_t y, int64_t z) {
+    const int64_t *c = piece->exponent;
+    return keep(c[0] + mul(c[1], y) + mul(c[2], z) + mul(mul(c[3], y), z), piece->kept);
+}
+
+wide fitted(const fit_piece *piece, int64_t y, int64_t z, int64_t weight) {
     wide a = bicubic(piece->a, y, z);
     if (!piece->weighed)
         return a;
     return a + floor_divide(weight * bicubic(piece->b, y, z), 10000000000);
+}
+
+int64_t nearest_weight(const fit_piece *piece, int64_t y, int64_t z) {
+    const long double one = 1.0e10L;
+    if (!piece->weighed)
+        return 0;
+    long double power = expl((long double)exponent(piece, y, z) / one);
+    return llrintl(one / (piece->minus ? 1.0L - power : 1.0L + power));
 }
 
 /* A coefficient in units times a product of n logarithms in millionths, as units of 10^-28: the missing 3 - n
@@ -109,7 +133,8 @@ wide exact_bicubic(const int64_t c[BICUBIC_TERMS], int64_t y, int64_t z) {
     return sum + c[8] * wy * wz * wz + c[9] * wz * wz * wz;
 }
 
-wide exact_exponent(const int64_t c[EXPONENT_TERMS], int64_t y, int64_t z) {
+wide exact_exponent(const fit_piece *piece, int64_t y, int64_t z) {
+    const int64_t *c = piece->exponent;
     const wide one = 1000000, wy = y, wz = z;
-    return c[0] * one * one + (c[1] * wy + c[2] * wz) * one + c[3] * wy * wz;
+    return keep(c[0] * one * one + (c[1] * wy + c[2] * wz) * one + c[3] * wy * wz, piece->kept * one * one);
 }

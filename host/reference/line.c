@@ -4,6 +4,7 @@
 #include <stdio.h>
 
 #include "name.h"
+#include "wide.h"
 
 listing_line line_of(const uint8_t *spelled, size_t m, const eas_answer *answer) {
     written_name shown = {.length = 1, .bytes = {'?'}};
@@ -26,5 +27,6 @@ listing_line line_of(const uint8_t *spelled, size_t m, const eas_answer *answer)
 eas_mark mark_of(const eas_answer *answer) {
     if (answer->number != 0)
         return (eas_mark){.blank = answer->number};
-    return (eas_mark){.point = {.across = (double)(answer->y + 7000000), .up = (double)answer->value}};
+    int64_t up = answer->letter == 'P' ? (int64_t)floor_divide(answer->value, 1000000) : answer->value;
+    return (eas_mark){.point = {.across = (double)(answer->y + 7000000), .up = (double)up}};
 }

@@ -14,7 +14,8 @@ typedef struct {
 /* The line of a spelled name whose search gave this answer. */
 listing_line line_of(const uint8_t *spelled, size_t m, const eas_answer *answer);
 
-/* The mark of an answer; both numbers are below 2^53, so that a double holds them exactly. */
+/* The mark of an answer: its value, of a pressure whole pascals, rounded down. Both numbers are below 2^53, so that a
+ * double holds them exactly. */
 eas_mark mark_of(const eas_answer *answer);
 
 #endif

@@ -3,6 +3,7 @@
 #include <stdbool.h>
 #include <string.h>
 
+#include "kinds.h"
 #include "name.h"
 
 static uint64_t high_byte_first(const uint8_t *bytes, int count) {
@@ -34,7 +35,7 @@ static uint32_t parse_record(parsed_sheet *out, const uint8_t *sheet, size_t n, 
     record.kind = rest[0];
     record.first = high_byte_first(rest + 1, 8);
     record.second = high_byte_first(rest + 9, 8);
-    if (record.kind != 1 && record.kind != 2)
+    if (!kind_known(record.kind))
         return 6;
     if (seen_earlier(out, sheet, &record))
         return 16;

@@ -46,22 +46,30 @@ static void sum_series(mpfr_t first, mpfr_t later, const mpfr_t u, mpfr_rnd_t ro
     mpfr_clear(term);
 }
 
-/* 10^10/(1 + sum), rounded; the sum is overwritten. */
-static void reciprocal(mpfr_t out, mpfr_t sum, mpfr_rnd_t of_sum, mpfr_rnd_t of_result) {
+static void exchange_signs(mpfr_t low, mpfr_t high) {
+    mpfr_neg(low, low, MPFR_RNDN);
+    mpfr_neg(high, high, MPFR_RNDN);
+    mpfr_swap(low, high);
+}
+
+/* Bounds of 10^10/(1 + sum), or of 10^10/(1 - sum), which is -10^10/(sum - 1); the sums are overwritten. */
+static void reciprocal(mpfr_t low, mpfr_t high, mpfr_t sum_low, mpfr_t sum_high, bool minus) {
     mpfr_t one;
     mpfr_init2(one, 64);
     mpfr_set_si(one, ONE, MPFR_RNDN);
-    mpfr_add_ui(sum, sum, 1, of_sum);
-    mpfr_div(out, one, sum, of_result);
+    mpfr_add_si(sum_low, sum_low, minus ? -1 : 1, MPFR_RNDD);
+    mpfr_add_si(sum_high, sum_high, minus ? -1 : 1, MPFR_RNDU);
+    mpfr_div(low, one, sum_high, MPFR_RNDD);
+    mpfr_div(high, one, sum_low, MPFR_RNDU);
+    if (minus)
+        exchange_signs(low, high);
     mpfr_clear(one);
 }
 
 static void subtract_from_one(mpfr_t low, mpfr_t high) {
-    mpfr_neg(low, low, MPFR_RNDN);
-    mpfr_neg(high, high, MPFR_RNDN);
-    mpfr_add_si(low, low, ONE, MPFR_RNDU);
-    mpfr_add_si(high, high, ONE, MPFR_RNDD);
-    mpfr_swap(low, high);
+    exchange_signs(low, high);
+    mpfr_add_si(low, low, ONE, MPFR_RNDD);
+    mpfr_add_si(high, high, ONE, MPFR_RNDU);
 }
 
 /* |q| / 10^decimals, rounded. */
@@ -112,7 +120,7 @@ static void series_sums(mpfr_t low[TERM_COUNTS], mpfr_t high[TERM_COUNTS], const
     mpfr_exp(high[2], u_high, MPFR_RNDU);
 }
 
-void weights_of(ideal_weights *w, wide q, unsigned decimals, mpfr_prec_t precision) {
+void weights_of(ideal_weights *w, transition t, mpfr_prec_t precision) {
     mpfr_t u_low, u_high, low[TERM_COUNTS], high[TERM_COUNTS];
     mpfr_inits2(precision, u_low, u_high, (mpfr_ptr)0);
     for (int i = 0; i < TERM_COUNTS; i++) {
@@ -120,16 +128,15 @@ void weights_of(ideal_weights *w, wide q, unsigned decimals, mpfr_prec_t precisi
         mpfr_set_prec(w->low[i], precision);
         mpfr_set_prec(w->high[i], precision);
     }
-    set_size(u_low, q, decimals, MPFR_RNDD);
-    set_size(u_high, q, decimals, MPFR_RNDU);
+    set_size(u_low, t.q, t.decimals, MPFR_RNDD);
+    set_size(u_high, t.q, t.decimals, MPFR_RNDU);
     if (precision == FIRST_WEIGHT_PRECISION)
         quick_sums(low, high, u_low, u_high);
     else
         series_sums(low, high, u_low, u_high);
     for (int i = 0; i < TERM_COUNTS; i++) {
-        reciprocal(w->low[i], high[i], MPFR_RNDU, MPFR_RNDD);
-        reciprocal(w->high[i], low[i], MPFR_RNDD, MPFR_RNDU);
-        if (q < 0)
+        reciprocal(w->low[i], w->high[i], low[i], high[i], t.minus);
+        if (t.q < 0)
             subtract_from_one(w->low[i], w->high[i]);
         mpfr_clears(low[i], high[i], (mpfr_ptr)0);
     }
@@ -148,14 +155,15 @@ static int within_tolerance(const ideal_weights *w, int64_t weight) {
     return verdict;
 }
 
-bool weight_allowed(int64_t weight, wide q) {
-    if (weight < 0 || weight > ONE)
+bool weight_allowed(int64_t weight, transition t) {
+    int64_t least = t.minus ? -21 * ONE : 0, most = t.minus ? 22 * ONE : ONE;
+    if (weight < least || weight > most)
         return false;
     ideal_weights w;
     int verdict = 0;
     weights_init(&w);
     for (mpfr_prec_t p = FIRST_WEIGHT_PRECISION; verdict == 0 && p <= LAST_WEIGHT_PRECISION; p *= 4) {
-        weights_of(&w, q, EXPONENT_DECIMALS, p);
+        weights_of(&w, t, p);
         verdict = within_tolerance(&w, weight);
     }
     weights_clear(&w);

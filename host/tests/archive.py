@@ -17,9 +17,11 @@ sys.dont_write_bytecode = True
 sys.path.insert(0, str(ROOT / "tests" / "listing"))
 import blocks
 
-FILES = [ROOT / "crates" / crate / "src" / "blocks.rt" for crate in ("tgas1_temperature", "tgas2_entropy")]
-MOST = 1888  # a byte for each number, and four or eight
-SHARED = {10**10, 18 * 10**10}  # coefficients that the weight has too, as its unit and its scale
+GAMMA = ("tgas1_gamma_low", "tgas1_gamma_middle", "tgas1_gamma_high")
+FILES = [ROOT / "crates" / crate / "src" / "blocks.rt" for crate in ("tgas1_temperature", "tgas2_entropy", *GAMMA)]
+MOST = 1888 + 1899  # a byte for each number, and four or eight: of temperature and entropy, and of pressure
+# coefficients that other code has too: the weight's unit and its scale; gamma's upper bound, which a comparison takes away
+SHARED = {10**10, 18 * 10**10, -2 * 10**10}
 DISTINCT = 2**16  # a word nearer to zero is no sign of a coefficient
 MOST_STATES = 100_000
 
@@ -241,14 +243,20 @@ def follow(library, section, start):
 
 
 def pieces():
-    """name of a piece, to its arrays by their names: the bytes of the coefficients, and how many of zero fill follow"""
+    """crate and name of a piece, to its arrays by theirs: the bytes of the coefficients, and how many of zero fill follow"""
     found = {}
-    for name, (places, words) in (item for file in FILES for item in blocks.blocks(file).items()):
+    for crate, name, (places, words) in ((file.parts[-3], *item) for file in FILES for item in blocks.blocks(file).items()):
         count = blocks.used(places)
-        parts = found.setdefault(name.rsplit("_", 1)[0], {})
-        parts[f"{name}_BYTES"] = bytes(places), 0
-        parts[name] = struct.pack(f"<{count}i", *words[:count]), 4 * (len(words) - count)
+        parts = found.setdefault(f"{crate}::{name.rsplit('_', 1)[0]}", {})
+        parts[f"{crate}::{name}_BYTES"] = bytes(places), 0
+        parts[f"{crate}::{name}"] = struct.pack(f"<{count}i", *words[:count]), 4 * (len(words) - count)
     return found
+
+
+def constants():
+    """the one gamma of each band's first piece: it is in no block and stands as it is"""
+    sources = [(ROOT / "crates" / crate / "src" / "lib.rt").read_text() for crate in GAMMA]
+    return [int(number) for text in sources for number in re.findall(r"\bfit: (\d+),", text)]
 
 
 def standing(memory, array):
@@ -300,7 +308,7 @@ def covered(extents):
 
 
 def strays(library, known):
-    """what else has four or eight bytes of an array, but for the numbers that the weight has too"""
+    """what else has four or eight bytes of an array, but for the numbers that other code has too"""
     signs, shared = set(), {struct.pack("<q", number)[:length] for number in SHARED for length in (4, 8)}
     for array in (array for parts in pieces().values() for array, _ in parts.values()):
         for part in (array[i : i + length] for length in (4, 8) for i in range(0, len(array) - length + 1, 4)):
@@ -340,9 +348,14 @@ def made(library, section):
             known |= {into: value} if value else {}
 
 
-def unpacked(library):
-    """each number, in data and in code, to the places where it stands: the section and the extents there"""
+def coefficients():
+    """the packed numbers but those near zero, which are no sign of a coefficient"""
     numbers = [n for file in FILES for places, words in blocks.blocks(file).values() for n in blocks.numbers(places, words)]
+    return [number for number in numbers if abs(number) >= DISTINCT]
+
+
+def unpacked(library, numbers):
+    """each number, in data and in code, to the places where it stands: the section and the extents there"""
     found = {(number, kind): [] for number in numbers for kind in ("data", "code")}
     for section, (_, data, runs, _) in enumerate(library.sections):
         for at in range(len(data) - 7):
@@ -356,7 +369,7 @@ def unpacked(library):
 
 
 def told_apart(found, near):
-    """of the numbers that the weight has too: the places near packed blocks or other coefficients, and those that are its own"""
+    """of the numbers that other code has too: the places near packed blocks or other coefficients, and those that are its own"""
     near = near | {section for (number, _), places in found.items() if number not in SHARED for section, _ in places}
     own = {key: [place for place in found[key] if place[0] not in near] for key in found if key[0] in SHARED}
     return {key: [place for place in places if place not in own.get(key, [])] for key, places in found.items()}, own
@@ -375,7 +388,7 @@ def extents_of(library, found):
 
 
 def plain(library):
-    found, _ = told_apart(unpacked(library), set())
+    found, _ = told_apart(unpacked(library, coefficients() + constants()), set())
     numbers = {number for number, _ in found}
     lost = [number for number in numbers if not found[number, "data"] + found[number, "code"]]
     print(f"{len(numbers)} coefficients, {len(lost)} of them nowhere as they are")
@@ -386,20 +399,24 @@ def judge(library):
     """every array is lent, no number stands unpacked and all takes no more than it may: how many checks, and what failed"""
     account = Account(library)
     known = covered(account.extents)
-    outside = {key: [p for p in places if not known >= covered(p[1])] for key, places in unpacked(library).items()}
+    standing = unpacked(library, coefficients())
+    outside = {key: [p for p in places if not known >= covered(p[1])] for key, places in standing.items()}
     found, own = told_apart(outside, account.near(library))
+    alone = unpacked(library, constants())
     failed = [f"{name} is not lent" for name in sorted(account.missing)]
     failed += [f"{key[0]} stands unpacked in {names(library, places)}" for key, places in found.items() if places]
-    more = strays(library, known) | extents_of(library, found)
-    size = len(account.exact) + len(covered(more))
+    failed += [f"{number} stands nowhere" for number in constants() if not alone[number, "data"] + alone[number, "code"]]
+    more = strays(library, known) | extents_of(library, found) | extents_of(library, alone)
+    elsewhere = covered(more) - account.exact
+    size = len(account.exact) + len(elsewhere)
     failed += [f"the coefficients take {size} bytes"] if size > MOST else []
     for key, places in own.items():
         if places:
-            print(f"{key[0]} of the weight stands in {names(library, places)}")
-    print(f"lent by {names(library, [(section,) for section in account.lenders])}; elsewhere {len(covered(more))} bytes")
+            print(f"{key[0]} of other code stands in {names(library, places)}")
+    print(f"lent by {names(library, [(section,) for section in account.lenders])}; elsewhere {len(elsewhere)} bytes")
     tell_sizes(library, account.extents | more)
     print(f"the coefficients without zero fill and alignment: {size} bytes, at most {MOST}")
-    return sum(map(len, pieces().values())) + len(found) + 1, failed
+    return sum(map(len, pieces().values())) + len(found) + len(constants()) + 1, failed
 
 
 def names(library, places):

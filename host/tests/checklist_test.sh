@@ -113,9 +113,16 @@ finds() {
         fails_only "Given sheet" "$2"
 }
 
-# names_cause FAULT WORDS: the mistake is told in words.
+# finds_pressures FAULT CHECK [ENTRY]: with the fault in pressures alone, this check fails, and no other, on the samples;
+# the given sheet, which has none, passes.
+finds_pressures() {
+    status 1 env FAULT="$1" ENTRY="$3" LETTER=P "$build/faults" "$work/complete.eas" &&
+        fails_only "Shipped samples" "$2" && all_pass "Given sheet"
+}
+
+# names_cause FAULT WORDS [SHEET]: the mistake is told in words.
 names_cause() {
-    status 1 env FAULT="$1" "$build/faults" "$work/complete.eas" && has "(wrong: $2"
+    status 1 env FAULT="$1" "$build/faults" "${3:-$work/complete.eas}" && group "Given sheet" | grep -q "(wrong: $2"
 }
 
 # A wrong state that no check looks at is told too.
@@ -153,6 +160,7 @@ refuses() {
 }
 
 expect "the edges and transitions pack to the stored sheet" packs_to_stored_sheet edges-and-transitions
+expect "the energies and pressures pack to the stored sheet" packs_to_stored_sheet energy-and-pressure
 expect "the samples pass" passes_samples checklist
 expect "the samples pass through the shim without a fault" passes_samples faults
 expect "what a sheet lacks is told" tells_what_is_missing
@@ -168,9 +176,26 @@ for fault in 1 2 3 4 5 7; do
         expect "fault $fault is found, by ${entry:-every entry}" finds $fault $check $entry
     done
 done
+for fault in 3 4 5 7 8; do
+    due=$fault
+    test $fault -le 5 || due=3
+    for entry in "" search plot line list; do
+        expect "fault $fault in pressures is found, by ${entry:-every entry}" finds_pressures $fault $due $entry
+    done
+done
 expect "a neighbour's curve is named" names_cause 3 "by the curve of the neighbouring density range)"
 expect "a missing join is named" names_cause 7 "by the curve of one density range, not joined between two)"
 expect "a lost sign is named" names_cause 4 "the two curves of the transition are weighed the wrong way round)"
+sheet "$work/pressures.eas" name,kind,energy_J_kg,density_kg_m3 'beside,pressure,7840840,0.41808300475' \
+    'on,pressure,7840840,0.40856627369'
+expect "a neighbour's curve is named in a pressure" names_cause 3 "by the curve of the neighbouring density range)" \
+    "$work/pressures.eas"
+expect "a missing join is named in a pressure" names_cause 7 \
+    "by the curve of one density range, not joined between two)" "$work/pressures.eas"
+expect "a lost sign is named in a pressure" names_cause 4 \
+    "the two curves of the transition are weighed the wrong way round)" "$work/pressures.eas"
+expect "densities of the strip's ends are named" names_cause 8 \
+    "joined with the densities of the strip's ends, not with the state's own)" "$work/pressures.eas"
 expect "a wrong state that no check looks at is found" finds_other_state
 expect "what the document cites stands" cites_what_stands
 expect "the document has the examples" documents_examples

@@ -1,7 +1,8 @@
 /* Compares the library with the reference on edge and random inputs.
  *
- * differential [seed [count]]: count is the number of states, of sheets and of spellings, 200,000 by default. A case
- * depends on the seed and its index alone, so that a failure is repeated by giving its seed. */
+ * differential [seed [count]]: count is the number of sheets and of spellings, 200,000 by default; of states there are
+ * half as many again. A case depends on the seed and its index alone, so that a failure is repeated by giving its seed.
+ */
 #include "differential.h"
 
 #include <stdlib.h>

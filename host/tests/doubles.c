@@ -1,4 +1,4 @@
-/* The temperature of TGAS1 and the entropy of TGAS2 in C doubles, compared with the library.
+/* TGAS1's temperature and pressure and TGAS2's entropy in C doubles, compared with the library.
  *
  * doubles [seed [count]]. The doubles take their own logarithms by libm; piece and strip are those of the answer's
  * carried logarithms, so that a state next to an edge is compared on one side of it.
@@ -15,6 +15,12 @@
  * rounded down by less than a microkelvin. With F the logarithm of the joined temperature over X and Y the bound is the
  * same, and a microkelvin more.
  *
+ * A pressure's gamma is within 100,000 units of 10^-10 of the exact fit at the carried logarithms, or at an edge of a
+ * strip: there the doubles are compared with it directly. The pressure itself is (gamma - 1) E R by the doubles' own
+ * logarithms, so that gamma may differ by 10^-5 and one millionth of each of its slopes, and the pressure by that part
+ * of gamma - 1 beyond a micropascal, or two in a strip. There E and R are the state's own at both edges. TGAS1 itself
+ * moves the density to the edge, R = 10**Y R0, and joins pressures of two densities; by design the library does not.
+ *
  * The constants are above the bound of every accepted state: a temperature's slopes come to 2.6 at most, but to 11 at
  * label 430, where the bound reaches 3.3e-5, and to 22 in the strip of the upper density edge, where it reaches 5.9e-5
  * next to refusal 13; the bound of an entropy is largest in a join, 3.8e-6. The output lists the largest bound met. */
@@ -29,15 +35,18 @@
 
 enum { DOUBLES_PART = 44 };
 
-/* Places in the list of groups; the fitted pieces stand between the first two. */
-enum { PERFECT_GROUP, JOINED_GROUP = 1 + BANDS * PIECES, ENTROPY_GROUP, GROUPS = ENTROPY_GROUP + BANDS + 2 };
+/* Places in the list of groups: the perfect gas, entropies by band, as a perfect gas and joined, then for each fitted
+ * property its joins and its pieces. */
+enum { PERFECT_GROUP, ENTROPY_GROUP, FITTED_GROUP = ENTROPY_GROUP + BANDS + 2, FITTED_GROUPS = 1 + BANDS * PIECES };
+enum { GROUPS = FITTED_GROUP + FITTED * FITTED_GROUPS };
 
 static const double TEMPERATURE_BOUND = 4e-5, JOINED_BOUND = 6e-5, ENTROPY_BOUND = 5e-6;
+static const double GAMMA_DISTANCE = 1e-5, PRESSURE_BOUND = 2e-4;
 static const double LN_TEN = 2.302585092994046, SLACK = 1.02, STEP = 1e-7;
 
 typedef struct {
-    int label;
     int weighed;
+    double sign, kept; /* of the exponential below the fraction's line; 0 where nothing keeps the exponent */
     double a[BICUBIC_TERMS], b[BICUBIC_TERMS], exponent[EXPONENT_TERMS];
 } double_piece;
 
@@ -47,26 +56,35 @@ typedef struct {
     double largest, bound, steepest;
 } group;
 
-static double_piece pieces[BANDS][PIECES];
+static double_piece pieces[FITTED][BANDS][PIECES];
 static double entropy_rows[BANDS][BICUBIC_TERMS];
 static group groups[GROUPS];
+static uint64_t pressures;
+static double farthest_gamma;
+
+/* A numeral as a double; 0 where there is none. */
+static double numeral(const char *text) {
+    return text == NULL ? 0 : strtod(text, NULL);
+}
+
+static void read_piece(double_piece *to, const printed_piece *from) {
+    to->weighed = from->b[0] != NULL;
+    to->sign = from->minus ? -1 : 1;
+    to->kept = numeral(from->kept);
+    for (int j = 0; j < BICUBIC_TERMS; j++) {
+        to->a[j] = numeral(from->a[j]);
+        to->b[j] = numeral(from->b[j]);
+    }
+    for (int j = 0; j < EXPONENT_TERMS; j++)
+        to->exponent[j] = numeral(from->exponent[j]);
+}
 
 static void read_numerals(void) {
     for (int band = 0; band < BANDS; band++) {
-        for (int i = 0; i < PIECES && printed_temperature[band][i].label != 0; i++) {
-            const printed_piece *from = &printed_temperature[band][i];
-            double_piece *to = &pieces[band][i];
-            to->label = from->label;
-            to->weighed = from->b[0] != NULL;
-            for (int j = 0; j < BICUBIC_TERMS; j++) {
-                to->a[j] = strtod(from->a[j], NULL);
-                to->b[j] = to->weighed ? strtod(from->b[j], NULL) : 0;
-            }
-            for (int j = 0; j < EXPONENT_TERMS && to->weighed; j++)
-                to->exponent[j] = strtod(from->exponent[j], NULL);
-        }
+        for (int i = 0; i < FITTED * PIECES; i++)
+            read_piece(&pieces[i / PIECES][band][i % PIECES], &printed_pieces[i / PIECES][band][i % PIECES]);
         for (int j = 0; j < BICUBIC_TERMS; j++)
-            entropy_rows[band][j] = strtod(printed_entropy[band][j], NULL);
+            entropy_rows[band][j] = numeral(printed_entropy[band][j]);
     }
 }
 
@@ -79,13 +97,16 @@ static double cubic(const double *c, double y, double z) {
     return gas1 + gas2 + gas3 + gas4;
 }
 
-/* TNON of TGAS1, labels 310 to 440 */
-static double tnon(const double_piece *p, double y, double z) {
+/* TNON of TGAS1, labels 310 to 440, or GAMM, labels 90 to 240 */
+static double fit_of(const double_piece *p, double y, double z) {
     double value = cubic(p->a, y, z);
     if (!p->weighed)
         return value;
     const double *c = p->exponent;
-    return value + cubic(p->b, y, z) / (1.0 + exp(c[0] + c[1] * y + c[2] * z + c[3] * y * z));
+    double gas9 = c[0] + c[1] * y + c[2] * z + c[3] * y * z;
+    if (p->kept != 0)
+        gas9 = fmax(fmin(gas9, p->kept), -p->kept);
+    return value + cubic(p->b, y, z) / (1.0 + p->sign * exp(gas9));
 }
 
 /* The straight line of a strip */
@@ -94,21 +115,20 @@ static double straight(const density_strip *strip, double y, double low, double 
     return low + (high - low) / (upper - lower) * (y - lower);
 }
 
-/* T of TGAS1 above the perfect gas at (y, z), by the piece that whole logarithms choose */
-static double piece_kelvin(int64_t chosen_y, int64_t chosen_z, double y, double z) {
-    int band = (int)band_of(chosen_y), i = 0;
-    while (chosen_z > printed_temperature[band][i].upper)
-        i++;
-    return 273.15 * pow(10.0, tnon(&pieces[band][i], y, z));
+/* T of TGAS1 above the perfect gas, or GAMM, at (y, z), by the piece that whole logarithms choose */
+static double piece_value(fitted_property of, int64_t chosen_y, int64_t chosen_z, double y, double z) {
+    double fit = fit_of(&pieces[of][band_of(chosen_y)][piece_place(of, chosen_y, chosen_z)], y, z);
+    return of == TEMPERATURE ? 273.15 * pow(10.0, fit) : fit;
 }
 
-/* The same with its joins, at the side that the answer's own logarithms choose */
-static double joined_kelvin(const eas_answer *a, double y, double z) {
+/* The same with its joins, at the side that the answer's own logarithms choose. With one E and one R for both edges the
+ * line between two pressures is that between two gammas. */
+static double joined_value(fitted_property of, const eas_answer *a, double y, double z) {
     density_strip strip;
     if (!strip_of(a->y, &strip))
-        return piece_kelvin(a->y, a->z, y, z);
-    double low = piece_kelvin(strip.lower, a->z, (double)strip.lower * 1e-6, z);
-    double high = piece_kelvin(strip.upper, a->z, (double)strip.upper * 1e-6, z);
+        return piece_value(of, a->y, a->z, y, z);
+    double low = piece_value(of, strip.lower, a->z, (double)strip.lower * 1e-6, z);
+    double high = piece_value(of, strip.upper, a->z, (double)strip.upper * 1e-6, z);
     return straight(&strip, y, low, high);
 }
 
@@ -148,32 +168,64 @@ static void show(const air_state *s, const eas_answer *a, double expected) {
     tally_answer("got", a);
 }
 
-/* Notes a fitted temperature in its group. */
-static void note_fit(const eas_answer *a, double difference, double bound, double steep) {
+/* Notes a fitted state in its group. */
+static void note_fit(fitted_property of, const eas_answer *a, double difference, double bound, double steep) {
+    static const char *const joined[] = {"temperature, joined", "pressure, joined"};
+    static const char *const single[] = {"temperature, label", "pressure, label"};
     density_strip strip;
-    const temperature_piece *piece = piece_at(a->y, a->z);
-    int band = (int)band_of(a->y), i = 0;
-    while (printed_temperature[band][i].label != piece->label)
-        i++;
+    int first = FITTED_GROUP + (int)of * FITTED_GROUPS, band = (int)band_of(a->y);
     if (strip_of(a->y, &strip))
-        note(JOINED_GROUP, "temperature, joined", 0, difference, bound, steep);
+        note(first, joined[of], 0, difference, bound, steep);
     else
-        note(1 + band * PIECES + i, "temperature, label", piece->label, difference, bound, steep);
+        note(first + 1 + band * PIECES + piece_place(of, a->y, a->z), single[of], piece_at(of, a->y, a->z)->label,
+             difference, bound, steep);
 }
 
 static void compare_fit(const air_state *s, const eas_answer *a) {
     density_strip strip;
     bool joined = strip_of(a->y, &strip);
     double y = log10((double)s->second / (double)D0), z = log10((double)s->first / (double)P0) - y;
-    double got = (double)a->value * 1e-6, kelvin = joined_kelvin(a, y, z), per = 2 * STEP * LN_TEN * kelvin;
-    double by_x = (joined_kelvin(a, y, z + STEP) - joined_kelvin(a, y, z - STEP)) / per;
-    double by_y = (joined_kelvin(a, y + STEP, z - STEP) - joined_kelvin(a, y - STEP, z + STEP)) / per;
-    double steep = fabs(by_x) + fabs(by_y), bound = SLACK * LN_TEN * 1e-6 * (3 + steep) + (joined ? 1e-6 / kelvin : 0);
+    double got = (double)a->value * 1e-6, kelvin = joined_value(TEMPERATURE, a, y, z);
+    double per = 2 * STEP * LN_TEN * kelvin;
+    double by_x = joined_value(TEMPERATURE, a, y, z + STEP) - joined_value(TEMPERATURE, a, y, z - STEP);
+    double by_y = joined_value(TEMPERATURE, a, y + STEP, z - STEP) - joined_value(TEMPERATURE, a, y - STEP, z + STEP);
+    double steep = (fabs(by_x) + fabs(by_y)) / per;
+    double bound = SLACK * LN_TEN * 1e-6 * (3 + steep) + (joined ? 1e-6 / kelvin : 0);
     double difference = fabs(got - kelvin) / kelvin;
-    note_fit(a, difference, bound, steep);
+    note_fit(TEMPERATURE, a, difference, bound, steep);
     if (!tally_check(difference <= bound && bound <= (joined ? JOINED_BOUND : TEMPERATURE_BOUND),
                      "temperature off by %.3g, bound %.3g", difference, bound))
         show(s, a, kelvin);
+}
+
+/* A carried gamma against the doubles' at its place. */
+static void compare_gamma(const air_state *s, const eas_answer *a, int64_t y, const eas_edge *edge) {
+    double gamma = piece_value(PRESSURE, y, a->z, (double)y * 1e-6, (double)a->z * 1e-6);
+    double difference = fabs((double)edge->fit * 1e-10 - gamma);
+    farthest_gamma = fmax(farthest_gamma, difference);
+    if (!tally_check(difference <= GAMMA_DISTANCE, "gamma off by %.3g at Y %" PRId64, difference, y))
+        show(s, a, gamma);
+}
+
+static void compare_pressure(const air_state *s, const eas_answer *a) {
+    density_strip strip = {a->y, a->y};
+    bool joined = strip_of(a->y, &strip);
+    double y = log10((double)s->second / (double)D0), z = log10((double)s->first / (double)E0);
+    double gamma = joined_value(PRESSURE, a, y, z), e = (double)s->first * 1e-3, r = (double)s->second * 1e-11;
+    double pressure = (gamma - 1) * e * r, got = (double)a->value * 1e-6;
+    double by_y = joined_value(PRESSURE, a, y + STEP, z) - joined_value(PRESSURE, a, y - STEP, z);
+    double by_z = joined_value(PRESSURE, a, y, z + STEP) - joined_value(PRESSURE, a, y, z - STEP);
+    double steep = (fabs(by_y) + fabs(by_z)) / (2 * STEP);
+    double bound = SLACK * (GAMMA_DISTANCE + 1e-6 * steep) / (gamma - 1), rounding = (joined ? 2e-6 : 1e-6) / pressure;
+    double difference = fmax(fabs(got - pressure) / pressure - rounding, 0);
+    pressures++;
+    note_fit(PRESSURE, a, difference, bound, steep);
+    compare_gamma(s, a, strip.lower, &a->low);
+    if (joined)
+        compare_gamma(s, a, strip.upper, &a->high);
+    if (!tally_check(difference <= bound && bound <= PRESSURE_BOUND, "pressure off by %.3g, bound %.3g", difference,
+                     bound))
+        show(s, a, pressure);
 }
 
 static void compare_perfect(const air_state *s, const eas_answer *a) {
@@ -211,28 +263,39 @@ static void compare(const air_state *s) {
         return;
     if (a.letter == 'S')
         compare_entropy(s, &a);
+    else if (a.letter == 'P')
+        compare_pressure(s, &a);
     else if (a.z > PERFECT_LIMIT)
         compare_fit(s, &a);
     else
         compare_perfect(s, &a);
 }
 
+/* A group of a piece that some band has. */
+static bool exists(int index) {
+    int i = index - FITTED_GROUP;
+    if (i < 0 || i % FITTED_GROUPS == 0)
+        return true;
+    int piece = i % FITTED_GROUPS - 1;
+    return printed_pieces[i / FITTED_GROUPS][piece / PIECES][piece % PIECES].label != 0;
+}
+
 static void print_groups(void) {
-    printf("  relative differences; constants: temperature %.1g, joined %.1g, entropy %.1g\n", TEMPERATURE_BOUND,
-           JOINED_BOUND, ENTROPY_BOUND);
+    printf("  relative differences; constants: temperature %.1g, joined %.1g, entropy %.1g, pressure %.1g\n",
+           TEMPERATURE_BOUND, JOINED_BOUND, ENTROPY_BOUND, PRESSURE_BOUND);
     printf("  %-26s %9s %12s %14s %10s\n", "piece", "states", "largest", "largest bound", "slopes");
     for (int i = 0; i < GROUPS; i++) {
         const group *g = &groups[i];
-        bool exists = i < 1 || i >= JOINED_GROUP || printed_temperature[(i - 1) / PIECES][(i - 1) % PIECES].label != 0;
-        if (!tally_check(g->count > 0 || !exists, "no state in group %d", i) || !exists)
+        if (!exists(i) || !tally_check(g->count > 0, "no state in group %d", i))
             continue;
         printf("  %-26s %9" PRIu64 " %12.3g %14.3g %10.3g\n", g->name, g->count, g->largest, g->bound, g->steepest);
     }
+    printf("  gamma at its carried logarithms: off by %.3g at most, %.1g allowed\n", farthest_gamma, GAMMA_DISTANCE);
 }
 
 int main(int count, char **arguments) {
     uint64_t seed = count > 1 ? strtoull(arguments[1], NULL, 10) : 20260101;
-    uint64_t cases = count > 2 ? strtoull(arguments[2], NULL, 10) : 500000;
+    uint64_t cases = count > 2 ? strtoull(arguments[2], NULL, 10) : 800000;
     size_t edges;
     tally_start("doubles", seed);
     read_numerals();
@@ -249,5 +312,6 @@ int main(int count, char **arguments) {
     }
     tally_case("groups", 0);
     print_groups();
+    tally_check(pressures >= cases / 4, "%" PRIu64 " pressures, fewer than a fourth of %" PRIu64, pressures, cases);
     return tally_end();
 }

@@ -1,15 +1,16 @@
 /* Linked in front of the library by the linker's --wrap, this gives the answers of a wrong calculator. In the
- * environment FAULT is the fault, of which 1 to 5 must be found by the check of that number in the checklist, and ENTRY
- * the one entry that has it: search, plot, line or list; without ENTRY, or with an empty one, all have it and
- * eas_evaluate too.
+ * environment FAULT is the fault, of which 1 to 5 must be found by the check of that number in the checklist; ENTRY is
+ * the one entry that has it: search, plot, line or list, and without ENTRY, or with an empty one, all have it and
+ * eas_evaluate too; LETTER is the one letter of answers that have it, where that is given and not empty.
  *
  *   1  the search gives 9 for every name with a percent form
  *   2  a name of digits is taken as the number of a row
  *   3  the lower band's polynomials are used from each density edge to 0.01 above its strip
- *   4  the weight's sign is lost in the temperatures alone, while the fits and their weights look right
- *   5  refusals 12 and 13 are replaced by 5,000 K
+ *   4  a sign is lost in the weight of the temperatures and pressures alone, while the fits and weights look right
+ *   5  refusals 12, 13 and 17 are replaced by 5,000 K
  *   6  a perfect gas is a microkelvin too hot, for the states that no check looks at
- *   7  temperatures are not joined: each has the polynomials of its own density's band; check 3 must find it
+ *   7  fits are not joined: each has the polynomials of its own density's band; check 3 must find it
+ *   8  the ends of a joined pressure have the densities of the strip's ends, as in the listing; check 3 must find it
  */
 #include <ctype.h>
 #include <math.h>
@@ -43,6 +44,11 @@ static bool has_fault(const char *entry) {
     return !only || !*only || !strcmp(only, entry);
 }
 
+static bool has_letter(uint32_t letter) {
+    const char *only = getenv("LETTER");
+    return !only || !*only || (uint32_t)*only == letter;
+}
+
 /* The answer of the row that the digits number, from 1; of the name where there is no such row. */
 static eas_answer row_answer(const uint8_t *sheet, size_t n, const uint8_t *digits, size_t m, eas_answer own) {
     static parsed_sheet parsed;
@@ -59,23 +65,27 @@ static eas_answer row_answer(const uint8_t *sheet, size_t n, const uint8_t *digi
     return __real_eas_evaluate(record->kind, record->first, record->second);
 }
 
-static int64_t weight_at(const temperature_piece *piece, int64_t y, int64_t z) {
-    long double q = (long double)exponent(piece->exponent, y, z) / (long double)ONE;
-    return piece->weighed ? llrintl((long double)ONE / (1.0L + expl(q))) : 0;
+static fitted_property property_of(const eas_answer *a) {
+    return a->letter == 'T' ? TEMPERATURE : PRESSURE;
 }
 
-static int64_t microkelvin(int64_t fit) {
-    return llrintl((long double)T0 * powl(10, (long double)fit / (long double)ONE));
+/* The value of a fit beside a right one of the same state, or for a pressure at another density: a pressure goes with
+ * gamma less 1, which spares the state's own energy and density here. */
+static int64_t value_beside(const eas_answer *a, int64_t right_fit, int64_t right, int64_t fit, int64_t millionths) {
+    if (a->letter == 'T')
+        return llrintl((long double)T0 * powl(10, (long double)fit / (long double)ONE));
+    long double ratio = (long double)(fit - ONE) / (long double)(right_fit - ONE);
+    return llrintl((long double)right * ratio * powl(10, (long double)millionths / 1e6L));
 }
 
 /* By the curves of the range that holds range_y, at the state's own density. */
 static void use_one_range(eas_answer *a, int64_t range_y) {
-    const temperature_piece *piece = piece_at(range_y, a->z);
-    int64_t weight = weight_at(piece, a->y, a->z);
-    a->low = (eas_edge){.fit = (int64_t)fitted(piece, a->y, a->z, weight), .weight = weight};
+    const fit_piece *piece = piece_at(property_of(a), range_y, a->z);
+    int64_t weight = nearest_weight(piece, a->y, a->z), fit = (int64_t)fitted(piece, a->y, a->z, weight);
+    a->value = value_beside(a, a->low.fit, a->low.value ? a->low.value : a->value, fit, 0);
+    a->low = (eas_edge){.fit = fit, .weight = weight};
     a->high = (eas_edge){0};
     a->carries &= ~(uint32_t)EAS_CARRIES_HIGH;
-    a->value = microkelvin(a->low.fit);
 }
 
 static void use_lower_band(eas_answer *a) {
@@ -86,21 +96,37 @@ static void use_lower_band(eas_answer *a) {
     }
 }
 
-/* A fit's temperature with the sign lost. Below 0 the exponent's weight is 1 less that of its size. */
-static int64_t without_sign(int64_t y, int64_t z, int64_t weight, int64_t value) {
-    const temperature_piece *piece = piece_at(y, z);
-    bool lost = piece->weighed && exponent(piece->exponent, y, z) < 0;
-    return lost ? microkelvin((int64_t)fitted(piece, y, z, ONE - weight)) : value;
+/* A fit's value with the sign lost: below 0 the exponent's weight is 1 less that of its size; in a minus transition the
+ * exponential is added to 1. */
+static int64_t without_sign(const eas_answer *a, int64_t y, const eas_edge *edge, int64_t value) {
+    fit_piece piece = *piece_at(property_of(a), y, a->z);
+    int64_t weight = ONE - edge->weight;
+    if (!piece.weighed || (!piece.minus && exponent(&piece, y, a->z) >= 0))
+        return value;
+    if (piece.minus) {
+        piece.minus = false;
+        weight = nearest_weight(&piece, y, a->z);
+    }
+    return value_beside(a, edge->fit, value, (int64_t)fitted(&piece, y, a->z, weight), 0);
 }
 
 static void lose_sign(eas_answer *a) {
     density_strip strip;
     if (!strip_of(a->y, &strip)) {
-        a->value = without_sign(a->y, a->z, a->low.weight, a->value);
+        a->value = without_sign(a, a->y, &a->low, a->value);
         return;
     }
-    a->low.value = without_sign(strip.lower, a->z, a->low.weight, a->low.value);
-    a->high.value = without_sign(strip.upper, a->z, a->high.weight, a->high.value);
+    a->low.value = without_sign(a, strip.lower, &a->low, a->low.value);
+    a->high.value = without_sign(a, strip.upper, &a->high, a->high.value);
+    a->value = (int64_t)straight_line(&strip, a->y, a->low.value, a->high.value);
+}
+
+static void use_end_densities(eas_answer *a) {
+    density_strip strip;
+    if (!strip_of(a->y, &strip))
+        return;
+    a->low.value = value_beside(a, a->low.fit, a->low.value, a->low.fit, strip.lower - a->y);
+    a->high.value = value_beside(a, a->high.fit, a->high.value, a->high.fit, strip.upper - a->y);
     a->value = (int64_t)straight_line(&strip, a->y, a->low.value, a->high.value);
 }
 
@@ -111,17 +137,21 @@ static void show_anyway(eas_answer *a) {
 }
 
 static eas_answer faulty_value(eas_answer a) {
-    bool is_fit = a.letter == 'T' && !a.number && a.carries & EAS_CARRIES_LOW;
+    bool is_fit = !a.number && a.carries & EAS_CARRIES_LOW;
+    if (!has_letter(a.letter))
+        return a;
     if (fault() == 3 && is_fit)
         use_lower_band(&a);
     if (fault() == 4 && is_fit)
         lose_sign(&a);
-    if (fault() == 5 && (a.number == 12 || a.number == 13))
+    if (fault() == 5 && (a.number == 12 || a.number == 13 || a.number == 17))
         show_anyway(&a);
     if (fault() == 6 && a.letter == 'T' && !a.number && !is_fit)
         a.value++;
     if (fault() == 7 && is_fit && a.carries & EAS_CARRIES_HIGH)
         use_one_range(&a, a.y);
+    if (fault() == 8 && is_fit && a.letter == 'P')
+        use_end_densities(&a);
     return a;
 }
 

@@ -29,11 +29,11 @@ def name(i):
 
 
 def record(i):
-    """temperatures and entropies of states of many densities, a few of them refused"""
-    at = random.Random(i)
+    """temperatures, entropies and pressures of states of many densities, a few of them refused"""
+    at, kind = random.Random(i), 1 + i % 3
     density = round(10 ** at.uniform(5, 14))
-    first = round(10 ** at.uniform(8, 16)) if i % 2 else round(10 ** at.uniform(8, 11.5))
-    return bytes([len(name(i))]) + name(i) + bytes([1 if i % 2 else 2]) + struct.pack(">QQ", first, density)
+    first = round(10 ** at.uniform(8, 16)) if kind == 1 else round(10 ** at.uniform(8, 11.5))
+    return bytes([len(name(i))]) + name(i) + bytes([kind]) + struct.pack(">QQ", first, density)
 
 
 def sheet():

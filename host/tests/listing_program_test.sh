@@ -79,7 +79,9 @@ done < names > lines
 sizes="$(seq 11000 11039) $(seq 22000 22009)"
 python3 "$inputs" mix 3000 65536 $sizes
 expect "the sheet has 65,536 bytes" test "$(wc -c < sheet)" -eq 65536
-expect "most of its names have a value" test "$(grep -c ' [TS] ' lines)" -gt 150
+for letter in T S P; do
+    expect "many of its names have a value with $letter" test "$(grep -c " $letter " lines)" -gt 25
+done
 
 # the inputs
 cp list.3000 list && cp expected.3000 expected

@@ -74,6 +74,31 @@ expect "joined temperatures are explained" shows "$work/slash-and-space.svg" "te
 expect "joined entropies are explained" shows "$work/slash-and-space.svg" "entropy, $joins"
 expect "where there is none it is not" lacks "$work/shock-tunnel.svg" "temperature, $joins"
 expect "strips of both kinds" shades "$work/slash-and-space.svg" 6
+
+# Pressures: a panel of their own in whole pascals, joined at every Z.
+pressures=$work/energy-and-pressure.svg
+for name in "lower-edge/below 1" "lower-edge/on 1" "lower-edge/above 7" "upper-edge/on 6" "upper-edge/limit"; do
+    expect "$name is a join" drawn_as "$pressures" "$name" "$diamond"
+done
+for name in "low/constant" "low/minus 4" "lower-edge/thinner 1" "upper-edge/denser 6" "high/kept 2"; do
+    expect "$name is none" drawn_as "$pressures" "$name" "$disc"
+done
+expect "joined pressures are explained" shows "$pressures" "pressure, $joins"
+expect "no perfect gas among pressures" lacks "$pressures" "pressure, perfect gas (Z up to 0.25)"
+expect "the panel's title" shows "$pressures" "Pressure, 126 states"
+expect "the panel's unit" shows "$pressures" "pressure, Pa"
+expect "whole pascals in the list" shows "$pressures" "7190121618"
+expect "a pressure below a pascal" sh -c "grep -q '<title>[0-9]*  thinnest: 0 Pa, ' '$pressures'"
+expect "a pressure in its mark's title" sh -c "grep -q '<title>[0-9]*  upper-edge/on 4: 689732 Pa, ' '$pressures'"
+expect "what Z is for pressures" shows "$pressures" "log10 of p/p₀ over ρ/ρ₀, for entropy and pressure of e/e₀"
+expect "a tick by its power of ten" shows "$pressures" "1e+09"
+expect "strips of entropy and pressure" shades "$pressures" 6
+expect "why a pressure has no point" sh -c "sed -n 's/.*<text[^>]*>\(.*\)<.text>.*/\1/p' '$pressures' | tr -d '\n' |
+    grep -q 'refusal 17: energy outside what the pressure fits cover at this density'"
+printf 'name,kind,energy_J_kg,density_kg_m3\na,pressure,78408.4,1e-6\nb,pressure,78408.4,2e-6\n' | "$tool" pack > "$work/thin.eas"
+expect "pressures below a pascal alone are drawn" "$plot" "$work/thin.eas" "$work/thin.svg" "$work/thin.png"
+expect "both have a mark" test "$(grep -c 'title>.*: 0 Pa' "$work/thin.svg")" -eq 2
+expect "no coordinate is no number" sh -c "! grep -qi -e nan -e inf '$work/thin.svg' '$pressures'"
 printf 'name,pressure_Pa,density_kg_m3\nwarm,36000,0.41\ncold,24000,0.405\n' | "$tool" pack > "$work/cold.eas"
 "$plot" "$work/cold.eas" "$work/cold.svg"
 expect "no strip among perfect gases alone" shades "$work/cold.svg" 2

@@ -9,5 +9,6 @@
 void test_numbers(void);
 void test_answers(uint64_t seed);
 void test_texts(void);
+void test_listing(void);
 
 #endif

@@ -6,6 +6,7 @@
 #include "reference/answer.h"
 #include "reference/claim.h"
 #include "reference/entropy.h"
+#include "reference/pressure.h"
 #include "reference/weight.h"
 #include "selftest.h"
 #include "states.h"
@@ -18,7 +19,7 @@ static void test_known_values(void) {
         int64_t y, z, fit;
     } fits[] = {{0, 500000, 4961733650}, {-1000000, 500000, 4943121249}, {-5000000, 500000, 4949976875}};
     for (size_t i = 0; i < LENGTH(fits); i++)
-        tally_check(fitted(piece_at(fits[i].y, fits[i].z), fits[i].y, fits[i].z, 0) == fits[i].fit, "fit %zu", i);
+        tally_check(fit_near(TEMPERATURE, fits[i].y, fits[i].z) == fits[i].fit, "fit %zu", i);
     tally_check(band_of(-4500000) == LOW_BAND && band_of(-4499999) == MIDDLE_BAND, "lower density edge");
     tally_check(band_of(-500000) == MIDDLE_BAND && band_of(-499999) == HIGH_BAND, "upper density edge");
     tally_check(entropy_value(0, 1000000) == 77879435, "entropy at ten times E0");
@@ -64,6 +65,71 @@ static void test_known_joins(void) {
     }
 }
 
+/* Pressures worked out from request 3 in Python's whole numbers: each piece, among them the minus transition and a kept
+ * exponent; joins of constants, of a minus and a plus transition, of pieces of different numbers. */
+static const struct {
+    uint64_t energy, density;
+    int64_t y, z, value;
+    eas_edge low, high;
+} pressures[] = {
+    /* clang-format off */
+    {247949132, 129200, -6000000, 500000, 127018, {13965000000, 0, 0}, {0}},
+    {2451108814, 102627, -6100001, 1495000, 615333, {12446166971, -40468990, 0}, {0}},
+    {3121494627, 1292000, -5000000, 1600000, 8897606, {12206216279, 9999999914, 0}, {0}},
+    {78408400000, 1292000, -5000000, 3000000, 96393262, {10951528002, 9999999841, 0}, {0}},
+    {175534542521, 1292000, -5000000, 3350000, 284084286, {11252627974, 9996745481, 0}, {0}},
+    {384027735806, 1292000, -5000000, 3690000, 576943529, {11162808511, 0, 0}, {0}},
+    {1564453257, 1292000000, -2000000, 1300000, 6936144280, {13431571190, 2314752165, 0}, {0}},
+    {7840840000, 1292000000, -2000000, 2000000, 20092826735, {11983425689, 9760400515, 0}, {0}},
+    {31214946272, 1292000000, -2000000, 2600000, 50811548881, {11259903633, 343746018, 0}, {0}},
+    {156445325697, 1292000000, -2000000, 3300000, 301503576078, {11491651476, 9548250586, 0}, {0}},
+    {78408400, 129200000000, 0, 0, 40399896736, {13988000000, 0, 0}, {0}},
+    {784084000, 162653163204, 100000, 1000000, 483159182694, {13788481166, 0, 0}, {0}},
+    {15644532570, 162653163204, 100000, 2300000, 4840169261645, {11902109190, 10000000000, 0}, {0}},
+    {19695299608, 102627207926377, 2900000, 2400000, 4782803553380369, {12366232624, 0, 0}, {0}},
+    {62282005960, 129200000000000, 3000000, 2900000, 20259667278798388, {12517718687, 13924056, 0}, {0}},
+    {7840840, 40950811623, -499000, -1000000, 1279474497,
+     {13980000000, 0, 1277933271}, {13988000000, 0, 1280501982}},
+    {2423051204, 4180830, -4490000, 1490000, 27081810,
+     {12669832093, -925528771, 27046374}, {12674829356, 6681877722, 27096998}},
+    {94267630695, 4085663, -4500000, 3080000, 373313456,
+     {10969112779, 0, 373249688}, {10969443918, 51935, 373377225}},
+    {15288419532, 40575372325, -503000, 2290000, 1117670368720,
+     {11801161954, 0, 1117320765365}, {11803979821, 10000000000, 1119068782142}},
+    /* clang-format on */
+};
+
+static void test_known_pressures(void) {
+    for (size_t i = 0; i < LENGTH(pressures); i++) {
+        tally_case("known pressures", i);
+        eas_answer a = {
+            .letter = 'P', .carries = 21, .y = pressures[i].y, .z = pressures[i].z, .value = pressures[i].value};
+        a.low = pressures[i].low;
+        a.high = pressures[i].high;
+        a.carries += a.high.fit == 0 ? 0 : EAS_CARRIES_HIGH;
+        const char *wrong = judge_answer(3, pressures[i].energy, pressures[i].density, &a);
+        tally_check(wrong == NULL, "%s", wrong);
+    }
+}
+
+/* The bounds of request 3 that no state comes near, and its limits, in a strip those of both edges. */
+static void test_pressure_limits(void) {
+    tally_case("pressure limits", 0);
+    tally_check(gamma_beyond(10100000000) && !gamma_beyond(10100000001), "gamma of 1.01");
+    tally_check(!gamma_beyond(19999999999) && gamma_beyond(20000000000), "gamma of 2");
+    for (int side = -1; side <= 1; side += 2)
+        tally_check(exponent_near_zero(side * 499999999) && !exponent_near_zero(side * 500000000), "0.05 from zero");
+    tally_check(exponent_near_zero(0), "an exponent of zero");
+    static const struct {
+        int64_t y, limit;
+    } limits[] = {{-7000000, 3690000}, {-4525000, 3690000}, {-4524999, 3400000}, {-4475001, 3400000},
+                  {-4475000, 3400000}, {-505000, 3400000},  {-504999, 2900000},  {-495001, 2900000},
+                  {-495000, 2900000},  {3000000, 2900000}};
+    for (size_t i = 0; i < LENGTH(limits); i++)
+        tally_check(!pressure_warned(limits[i].y, limits[i].limit) && pressure_warned(limits[i].y, limits[i].limit + 1),
+                    "limit at Y %" PRId64, limits[i].y);
+}
+
 /* 10^low < over^power < 10^high in whole numbers; the power is a million for a denominator of 1. */
 static bool power_between(unsigned long over, int64_t low, int64_t high) {
     mpz_t power, below, above;
@@ -103,79 +169,105 @@ static void test_logarithms(void) {
     logarithm_clear(&l);
 }
 
-/* 10^10 times the ideal weight as a fraction; q in units of 10^-10. */
-static void exact_weight(mpq_t out, int64_t q, unsigned terms) {
+/* 10^10 times the ideal weight as a fraction. */
+static void exact_weight(mpq_t out, transition t, unsigned terms) {
     mpq_t term, factor;
     mpq_inits(term, factor, NULL);
     mpq_set_ui(term, 1, 1);
-    mpq_set_ui(out, 2, 1);
+    mpq_set_ui(out, 1, 1);
     for (unsigned j = 1; j <= terms; j++) {
-        mpq_set_ui(factor, (unsigned long)(q < 0 ? -q : q), 10000000000);
+        mpq_set_ui(factor, (unsigned long)(t.q < 0 ? -t.q : t.q), 10000000000);
         mpz_mul_ui(mpq_denref(factor), mpq_denref(factor), j);
         mpq_canonicalize(factor);
         mpq_mul(term, term, factor);
         mpq_add(out, out, term);
     }
+    mpq_set_ui(factor, 1, 1);
+    if (t.minus)
+        mpq_neg(out, out);
+    mpq_add(out, factor, out);
     mpq_set_ui(factor, 10000000000, 1);
     mpq_div(out, factor, out);
-    if (q < 0)
+    if (t.q < 0)
         mpq_sub(out, factor, out);
     mpq_clears(term, factor, NULL);
 }
 
-static void test_weight(int64_t q) {
+/* Free answer two at its ends, by the exact weight for 400 terms. */
+static void test_tolerance(transition t, const mpq_t exact) {
+    mpz_t whole;
+    mpz_init(whole);
+    mpz_fdiv_q(whole, mpq_numref(exact), mpq_denref(exact));
+    int64_t q = (int64_t)t.q, below = mpz_get_si(whole);
+    bool is_whole = mpz_cmp_ui(mpq_denref(exact), 1) == 0;
+    tally_check(weight_allowed(below - 10, t) == is_whole, "10 below, q %" PRId64, q);
+    tally_check(weight_allowed(below - 9, t) == (t.minus || below >= 9), "9 below, q %" PRId64, q);
+    tally_check(weight_allowed(below + 10, t) == (t.minus || below + 10 <= 10000000000), "10 above, q %" PRId64, q);
+    tally_check(!weight_allowed(below + 11, t), "11 above, q %" PRId64, q);
+    mpz_clear(whole);
+}
+
+static void test_weight(bool minus, int64_t q) {
     static const unsigned terms[] = {128, 400};
+    const transition t = {minus, q, EXPONENT_DECIMALS};
     ideal_weights w;
     mpq_t exact;
-    mpz_t whole;
     weights_init(&w);
     mpq_init(exact);
-    mpz_init(whole);
     for (int i = 0; i < 2; i++) {
-        exact_weight(exact, q, terms[i]);
+        exact_weight(exact, t, terms[i]);
         for (mpfr_prec_t p = FIRST_WEIGHT_PRECISION; p <= 16 * FIRST_WEIGHT_PRECISION; p *= 4) {
-            weights_of(&w, q, EXPONENT_DECIMALS, p);
+            weights_of(&w, t, p);
             tally_check(mpfr_cmp_q(w.low[i], exact) <= 0 && mpfr_cmp_q(w.high[i], exact) >= 0,
                         "bounds of %u terms at %d bits, q %" PRId64, terms[i], (int)p, q);
         }
     }
-    mpz_fdiv_q(whole, mpq_numref(exact), mpq_denref(exact));
-    int64_t floor_weight = mpz_get_si(whole);
-    bool is_whole = mpz_cmp_ui(mpq_denref(exact), 1) == 0;
-    tally_check(weight_allowed(floor_weight - 10, q) == is_whole, "10 below, q %" PRId64, q);
-    tally_check(weight_allowed(floor_weight - 9, q) == (floor_weight >= 9), "9 below, q %" PRId64, q);
-    tally_check(weight_allowed(floor_weight + 10, q) == (floor_weight + 10 <= 10000000000), "10 above, q %" PRId64, q);
-    tally_check(!weight_allowed(floor_weight + 11, q), "11 above, q %" PRId64, q);
+    test_tolerance(t, exact);
     weights_clear(&w);
     mpq_clear(exact);
-    mpz_clear(whole);
 }
 
+/* The exponents of a minus transition begin at 0.05. */
 static void test_weights(void) {
-    static const int64_t exponents[] = {0,           1,           10,           9999999999,   10000000000,
-                                        12345678901, 50000000000, 119999999999, 240000000000, 999999999999};
-    for (size_t i = 0; i < LENGTH(exponents); i++) {
-        tally_case("weight", i);
-        test_weight(exponents[i]);
-        test_weight(-exponents[i]);
+    static const int64_t exponents[] = {0,           1,           10,          500000000,    9999999999,   10000000000,
+                                        12345678901, 22091900000, 50000000000, 119999999999, 240000000000, 300000000000,
+                                        999999999999};
+    for (size_t i = 0; i < 2 * LENGTH(exponents); i++) {
+        bool minus = i % 2 != 0;
+        int64_t q = exponents[i / 2];
+        tally_case(minus ? "minus weight" : "weight", i / 2);
+        if (minus && exponent_near_zero(q))
+            continue;
+        test_weight(minus, q);
+        test_weight(minus, -q);
     }
-    tally_check(!weight_allowed(-1, 999999999999) && !weight_allowed(10000000001, -999999999999), "outside 0 to 10^10");
+    const transition large = {false, 999999999999, EXPONENT_DECIMALS},
+                     small = {false, -999999999999, EXPONENT_DECIMALS};
+    tally_check(!weight_allowed(-1, large) && !weight_allowed(10000000001, small), "outside 0 to 10^10");
 }
 
 /* Demand 3's own bounds, which the stricter rules of an answer would hide, of a fit and its temperature. */
 static void test_fit_claim(int64_t y, int64_t z, int64_t fit, int64_t value) {
-    const temperature_piece *piece = piece_at(y, z);
     ratio_logarithm kelvin;
     logarithm_init(&kelvin);
     logarithm_of(&kelvin, (uint64_t)value, T0);
-    tally_check(fit_claim(piece, y, z, fit, &kelvin) == NULL, "right claim");
-    tally_check(fit_claim(piece, y, z, fit + 12500, &kelvin) != NULL, "fit too high");
-    tally_check(fit_claim(piece, y, z, fit - 12500, &kelvin) != NULL, "fit too low");
+    tally_check(fit_claim(TEMPERATURE, y, z, fit, &kelvin) == NULL, "right claim");
+    tally_check(fit_claim(TEMPERATURE, y, z, fit + 12500, &kelvin) != NULL, "fit too high");
+    tally_check(fit_claim(TEMPERATURE, y, z, fit - 12500, &kelvin) != NULL, "fit too low");
     logarithm_of(&kelvin, (uint64_t)(value + value / 100000), T0);
-    tally_check(fit_claim(piece, y, z, fit, &kelvin) != NULL, "temperature too high");
+    tally_check(fit_claim(TEMPERATURE, y, z, fit, &kelvin) != NULL, "temperature too high");
     logarithm_of(&kelvin, (uint64_t)(value - value / 100000), T0);
-    tally_check(fit_claim(piece, y, z, fit, &kelvin) != NULL, "temperature too low");
+    tally_check(fit_claim(TEMPERATURE, y, z, fit, &kelvin) != NULL, "temperature too low");
     logarithm_clear(&kelvin);
+}
+
+/* A gamma by the nearest weight is less than 300 units from the exact one. */
+static void test_gamma_claim(int64_t y, int64_t z) {
+    int64_t fit = fit_near(PRESSURE, y, z);
+    for (int side = -1; side <= 1; side += 2) {
+        tally_check(fit_claim(PRESSURE, y, z, fit + side * 99700, NULL) == NULL, "gamma at %d end", side);
+        tally_check(fit_claim(PRESSURE, y, z, fit + side * 100300, NULL) != NULL, "gamma beyond %d end", side);
+    }
 }
 
 /* A joined entropy is rounded down three times, at both edges and on the line. */
@@ -201,11 +293,19 @@ static void test_claims(int64_t y) {
             test_fit_claim(strip.upper, a.z, a.high.fit, a.high.value);
         test_entropy_claim(a.y, a.z, joined);
     }
+    for (int64_t z = LOWEST_Z; !pressure_warned(y, z); z += 90000) {
+        tally_case("claims on gamma", (uint64_t)(z + 1000000000 * (y + 7000000)));
+        test_gamma_claim(joined ? strip.lower : y, z);
+        if (joined)
+            test_gamma_claim(strip.upper, z);
+    }
 }
 
 void test_numbers(void) {
     test_known_values();
     test_known_joins();
+    test_known_pressures();
+    test_pressure_limits();
     test_logarithms();
     test_weights();
     for (int64_t y = -6900000; y < 3000000; y += 330000)

@@ -22,6 +22,7 @@ static const struct {
     {BYTES("EAS\0\1\0\0"), 0, 0},
     {BYTES("EAS\0\1\0\1\1A\1" VALUES), 0, 1},
     {BYTES("EAS\0\1\0\2\1A\1" VALUES "\2A\0\2" VALUES), 0, 2},
+    {BYTES("EAS\0\1\0\1\1A\3" VALUES), 0, 1},
     {BYTES(""), 2, 0},
     {BYTES("EAS\0\1\0"), 2, 0},
     {BYTES("EAT\0\1\0\0"), 2, 0},
@@ -33,11 +34,11 @@ static const struct {
     {BYTES("EAS\0\1\0\1\0"), 5, 0},
     {BYTES("EAS\0\1\0\1\x29"), 5, 0},
     {BYTES("EAS\0\1\0\1\x28"), 4, 0},
-    {BYTES("EAS\0\1\0\1\1A\3\0\0\0\0\0\0\0\0\0\0\0\0\0\0\0"), 4, 0},
+    {BYTES("EAS\0\1\0\1\1A\4\0\0\0\0\0\0\0\0\0\0\0\0\0\0\0"), 4, 0},
     {BYTES("EAS\0\1\0\1\1A\0" VALUES), 6, 0},
-    {BYTES("EAS\0\1\0\1\1A\3" VALUES "x"), 6, 0},
+    {BYTES("EAS\0\1\0\1\1A\4" VALUES "x"), 6, 0},
     {BYTES("EAS\0\1\0\2\1A\1" VALUES "\1A\1" VALUES), 16, 0},
-    {BYTES("EAS\0\1\0\2\1A\1" VALUES "\1A\3" VALUES), 6, 0},
+    {BYTES("EAS\0\1\0\2\1A\1" VALUES "\1A\4" VALUES), 6, 0},
     {BYTES("EAS\0\1\0\3\1A\1" VALUES "\1A\1" VALUES "\0"), 16, 0},
     {BYTES("EAS\0\1\0\1\1A\1" VALUES "\0"), 4, 0},
     {BYTES("EAS\0\1\1\0\1A\1" VALUES), 4, 0},
@@ -72,8 +73,8 @@ static void test_finding(void) {
     tally_check(sheet_find(&parsed, sheets[2].bytes, BYTES("B")).number == 9, "no such name");
     tally_check(sheet_find(&parsed, sheets[2].bytes, BYTES("A%")).number == 7, "wrong spelling");
     tally_check(sheet_find(&parsed, sheets[2].bytes, BYTES("")).number == 8, "empty spelling");
-    sheet_parse(&parsed, sheets[7].bytes, sheets[7].n);
-    tally_check(sheet_find(&parsed, sheets[7].bytes, BYTES("A%")).number == 3, "the sheet comes before the name");
+    sheet_parse(&parsed, sheets[8].bytes, sheets[8].n);
+    tally_check(sheet_find(&parsed, sheets[8].bytes, BYTES("A%")).number == 3, "the sheet comes before the name");
 }
 
 #define TEN "ABCDEFGHIJ"
@@ -128,6 +129,8 @@ static void test_lines_and_marks(void) {
         {"hot", "hot ! 13\n", {.number = 13, .letter = 'T', .y = -1000000, .z = 3000000}},
         {"a%2", "? ! 7\n", {.number = 7}},
         {"n", "n S -7000000 -1 5\n", {.letter = 'S', .y = -7000000, .z = -1, .value = 5}},
+        {"p", "p P 0 0 40399896736\n", {.letter = 'P', .value = 40399896736}},
+        {"p", "p ! 17\n", {.number = 17, .letter = 'P', .z = 3000000}},
     };
     for (size_t i = 0; i < LENGTH(lines); i++) {
         tally_case("line", i);
@@ -138,6 +141,12 @@ static void test_lines_and_marks(void) {
     eas_mark blank = mark_of(&lines[2].answer), point = mark_of(&lines[4].answer);
     tally_check(blank.blank == 13 && blank.point.across == 0 && blank.point.up == 0, "blank mark");
     tally_check(point.blank == 0 && point.point.across == 0 && point.point.up == 5, "point mark");
+    static const int64_t pressures[][2] = {
+        {40399896736, 40399}, {999999, 0}, {1000000, 1}, {401, 0}, {1290000000000000000, 1290000000000}};
+    for (size_t i = 0; i < LENGTH(pressures); i++) {
+        eas_answer a = {.letter = 'P', .value = pressures[i][0]};
+        tally_check(mark_of(&a).point.up == (double)pressures[i][1], "whole pascals of %" PRId64, pressures[i][0]);
+    }
 }
 
 void test_texts(void) {

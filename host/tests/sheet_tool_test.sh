@@ -84,8 +84,13 @@ right "forty bytes" $si$forty',1,1\n' $forty',1,1000000,100000000000\n'
 
 # Kinds and numbers.
 right "the kind by its columns" $both'a,1,,1\nb,,1,1\n' 'a,1,1000000,100000000000\nb,2,1000,100000000000\n'
-right "the kind in words" 'name,kind,pressure_Pa,energy_J_kg,density_kg_m3\na,entropy,1,1,1\nb,Temperature,1,1,1\n' \
-    'a,2,1000,100000000000\nb,1,1000000,100000000000\n'
+right "the kind in words" \
+    'name,kind,pressure_Pa,energy_J_kg,density_kg_m3\na,entropy,1,1,1\nb,Temperature,1,1,1\nc,PRESSURE,,1,1\n' \
+    'a,2,1000,100000000000\nb,1,1000000,100000000000\nc,3,1000,100000000000\n'
+right "the kind by its number" 'name,kind,energy_J_kg,density_kg_m3\na,2,1,1\nb,3,1,1\n' \
+    'a,2,1000,100000000000\nb,3,1000,100000000000\n'
+right "energy and density without a kind" 'name,energy_J_kg,density_kg_m3\na,1,1\n' 'a,2,1000,100000000000\n'
+right "whole units of a pressure's energy" 'name,'$whole'a,3,7,9\n' 'a,3,7,9\n'
 right "whole units and SI" 'name,kind,first,density_kg_m3\na,1,7,1\n' 'a,1,7,100000000000\n'
 right "decimals and exponents" $si'a,101330.5,1.292\nb,1.0133e5,1292E-3\nc,+.5,12.92e-1\nd,1e-6,0.00000000001\n' \
     'a,1,101330500000,129200000000\nb,1,101330000000,129200000000\nc,1,500000,129200000000\nd,1,1,1\n'
@@ -117,13 +122,18 @@ wrong "a space in a spelling" 'spelled,'$whole'a b,1,2,3\n' \
 wrong "raw and spelled" 'name,spelled,'$whole'a,a,1,2,3\n' 'line 2: both a name and a spelled name are given'
 wrong "a name twice" $si'a b,1,1\nc,1,1\n"a b",1,1\n' \
     'line 4: refusal 16: the name was seen earlier in the sheet, on line 2'
-wrong "an unknown kind" 'name,'$whole'a,3,2,3\n' "line 2: refusal 6: the kind is unknown: '3'"
+wrong "an unknown kind" 'name,'$whole'a,4,2,3\n' "line 2: refusal 6: the kind is unknown: '4'"
+wrong "an unknown kind in words" 'name,'$whole'a,energy,2,3\n' "line 2: refusal 6: the kind is unknown: 'energy'"
 wrong "a kind of 257" 'name,'$whole'a,257,2,3\n' "line 2: refusal 6: the kind is unknown: '257'"
 wrong "two kinds" $both'a,1,1,1\n' \
     "line 2: values of two kinds (pressure_Pa and energy_J_kg): a column 'kind' must say which is meant"
 wrong "no first value" $both'a,,,1\n' \
     'line 2: no kind, and not pressure_Pa with density_kg_m3, or energy_J_kg with density_kg_m3'
 wrong "the kind's value is missing" 'name,kind,pressure_Pa,density_kg_m3\na,2,1,1\n' 'line 2: the energy is missing'
+wrong "the energy of a wanted pressure is missing" 'name,kind,pressure_Pa,density_kg_m3\na,pressure,1,1\n' \
+    'line 2: the energy is missing'
+wrong "too fine an energy" 'name,kind,energy_J_kg,density_kg_m3\na,3,1.0001,1\n' \
+    "line 2: energy_J_kg: '1.0001' has more digits than the unit of 1e-3 J/kg holds"
 wrong "a density twice" 'name,pressure_Pa,density,density_kg_m3\na,1,1,1\n' \
     'line 2: the density is given twice, in density_kg_m3 and in density'
 decimal='is no decimal number from 0 up, with a point before its decimals'

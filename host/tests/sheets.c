@@ -3,6 +3,7 @@
 #include <stdbool.h>
 #include <string.h>
 
+#include "reference/kinds.h"
 #include "states.h"
 
 static void put(tried_sheet *s, uint64_t number, int bytes) {
@@ -27,9 +28,9 @@ void random_name(tried_bytes *out, random_source *r) {
 typedef enum { LENGTH_ZERO, LENGTH_41, LENGTH_ANY, LENGTH_LESS, KIND_WRONG, NAME_AGAIN, RECORD_DAMAGES } record_damage;
 
 static void put_record(tried_sheet *s, random_source *r, const tried_bytes *name, int damage) {
-    uint8_t length = (uint8_t)name->n, kind = (uint8_t)(1 + random_below(r, 2));
+    uint8_t length = (uint8_t)name->n, kind = (uint8_t)(1 + random_below(r, LAST_KIND));
     air_state state = random_below(r, 4) == 0 ? random_state(r) : plane_state(r, kind);
-    static const uint8_t wrong_kinds[] = {0, 3, 4, 49, 50, 255};
+    static const uint8_t wrong_kinds[] = {0, LAST_KIND + 1, LAST_KIND + 2, 49, 50, 51, 255};
     if (damage == LENGTH_ZERO)
         length = 0;
     if (damage == LENGTH_41)

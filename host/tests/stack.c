@@ -123,7 +123,7 @@ static size_t used(void (*work)(void)) {
     return m.used;
 }
 
-/* Adds a record; the states go over all bands and pieces of both kinds, and both are joined in both strips. */
+/* Adds a record; the states go over all bands and pieces of every kind, and each is joined in both strips. */
 static void add_record(sheet *s, unsigned index) {
     static const uint64_t firsts[] = {101330000000, 5000000000000, 784084000, 78408400,
                                       254529,       717361463316,  0,         1000000000000};
@@ -132,7 +132,7 @@ static void add_record(sheet *s, unsigned index) {
     uint8_t name[2];
     size_t length = index < 256 ? 1 : 2;
     put_number(name, (int)length, index < 256 ? index : index - 256);
-    s->n = append_record(s->bytes, s->n, name, length, (uint8_t)(index / 64 % 2 + 1), firsts[index % 8],
+    s->n = append_record(s->bytes, s->n, name, length, (uint8_t)(index / 64 % 3 + 1), firsts[index % 8],
                          densities[index / 8 % 8]);
 }
 

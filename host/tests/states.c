@@ -11,13 +11,31 @@
 /* Density edges, strip edges, extremes, standards. */
 static const int64_t y_edges[] = {-7000000, -6000000, -5000000, -4525000, -4500000, -4475000, -2000000, -1000000,
                                   -505000,  -500000,  -495000,  0,        1000000,  2000000,  3000000};
-/* Window, perfect gas, piece ends; and limits and extremes of the entropy's Z. */
+/* Window, perfect gas and piece ends of a temperature's Z; limits and extremes of an entropy's; piece ends, limits and
+ * extremes of a pressure's. */
 static const int64_t temperature_edges[] = {-1000000, 0,       250000,  650000,  950000, 1400000,
                                             1450000,  1950000, 2000000, 2500000, 3000000};
 static const int64_t entropy_edges[] = {-1000000, 0,       400000,  650000,  1000000, 2000000,
                                         3000000,  3400000, 3500000, 3690000, 4000000};
-/* Z of temperatures between the ends of pieces, for the strips. */
+static const int64_t pressure_edges[] = {-1000000, 0,       650000,  1500000, 1700000, 2200000, 2220000,
+                                         2350000,  2900000, 2950000, 3050000, 3400000, 3690000, 4000000};
+/* Z between the ends of pieces, for the strips. */
 static const int64_t temperature_middles[] = {600000, 1175000, 1425000, 1700000, 1975000, 2250000};
+static const int64_t pressure_middles[] = {300000,  1000000, 1250000, 1480000, 1600000, 1950000,
+                                           2210000, 2290000, 2600000, 2925000, 3000000, 3200000};
+
+typedef struct {
+    const int64_t *z;
+    size_t count;
+} z_list;
+
+#define LIST(array)                                                                                                    \
+    { array, LENGTH(array) }
+static const z_list z_edges[] = {[TEMPERATURE_KIND] = LIST(temperature_edges),
+                                 [ENTROPY_KIND] = LIST(entropy_edges),
+                                 [PRESSURE_KIND] = LIST(pressure_edges)};
+static const z_list z_middles[FITTED] = {
+    [TEMPERATURE] = LIST(temperature_middles), [PRESSURE] = LIST(pressure_middles)};
 static const uint64_t odd_values[] = {0,         1,         2,         E_MIN - 1, E_MIN,     E_MIN + 1,
                                       E0,        P0,        E_MAX - 1, E_MAX,     E_MAX + 1, P_MAX - 1,
                                       P_MAX,     P_MAX + 1, D_MIN,     D_MAX,     INT64_MAX, INT64_MAX + UINT64_C(1),
@@ -25,6 +43,8 @@ static const uint64_t odd_values[] = {0,         1,         2,         E_MIN - 1
 static const uint64_t odd_densities[] = {0,     1,         D_MIN - 1, D_MIN,     D_MIN + 1, D0,
                                          D_MAX, D_MAX - 1, D_MAX + 1, INT64_MAX, UINT64_MAX};
 static const uint8_t odd_kinds[] = {0, 1, 2, 3, 4, 49, 128, 255};
+/* Kinds of random states, as often as they stand here. */
+static const uint8_t random_kinds[] = {1, 1, 1, 1, 2, 2, 3, 3, 3};
 
 /* standard·10^(millionths/1,000,000), to the nearest whole number, 1 at least. */
 static uint64_t scaled(uint64_t standard, int64_t millionths) {
@@ -38,18 +58,28 @@ air_state state_near(uint8_t kind, int64_t y, int64_t z) {
     return s;
 }
 
-int64_t fit_near(int64_t y, int64_t z) {
-    const temperature_piece *piece = piece_at(y, z);
-    long double q = (long double)exponent(piece->exponent, y, z) / 1.0e10L;
-    return (int64_t)fitted(piece, y, z, llrintl(1.0e10L / (1.0L + expl(q))));
+uint8_t fitted_kind(fitted_property of) {
+    return of == TEMPERATURE ? TEMPERATURE_KIND : PRESSURE_KIND;
 }
 
-int pair_ends(const density_strip *strip, int64_t ends[MOST_PAIRS]) {
+int64_t fit_start(fitted_property of) {
+    return of == TEMPERATURE ? PERFECT_LIMIT : LOWEST_Z - 1;
+}
+
+int64_t fit_near(fitted_property of, int64_t y, int64_t z) {
+    const fit_piece *piece = piece_at(of, y, z);
+    return (int64_t)fitted(piece, y, z, nearest_weight(piece, y, z));
+}
+
+static int64_t lesser(int64_t a, int64_t b) {
+    return a < b ? a : b;
+}
+
+int pair_ends(fitted_property of, const density_strip *strip, int64_t ends[MOST_PAIRS]) {
+    int64_t limit = lesser(fit_limit(of, strip->lower), fit_limit(of, strip->upper));
     int count = 0;
-    for (int64_t z = PERFECT_LIMIT; z < HIGHEST_Z; ends[count++] = z) {
-        int64_t lower = piece_at(strip->lower, z + 1)->upper, upper = piece_at(strip->upper, z + 1)->upper;
-        z = lower < upper ? lower : upper;
-    }
+    for (int64_t z = fit_start(of); z < limit; ends[count++] = z)
+        z = lesser(piece_at(of, strip->lower, z + 1)->upper, piece_at(of, strip->upper, z + 1)->upper);
     return count;
 }
 
@@ -84,37 +114,39 @@ static void add_around(uint8_t kind, int64_t y, int64_t z) {
 }
 
 static void add_plane_edges(void) {
-    for (size_t i = 0; i < LENGTH(y_edges); i++) {
-        for (size_t j = 0; j < LENGTH(temperature_edges); j++)
-            add_around(1, y_edges[i], temperature_edges[j]);
-        for (size_t j = 0; j < LENGTH(entropy_edges); j++)
-            add_around(2, y_edges[i], entropy_edges[j]);
-    }
+    for (size_t i = 0; i < LENGTH(y_edges); i++)
+        for (uint8_t kind = 1; kind <= LAST_KIND; kind++)
+            for (size_t j = 0; j < z_edges[kind].count; j++)
+                add_around(kind, y_edges[i], z_edges[kind].z[j]);
 }
 
-/* Where an exponent at one Y passes zero, the states at another. */
-static void add_transitions(int64_t edge, int64_t y) {
-    for (int64_t start = 950001; start <= 3000000; start += 50000) {
-        const temperature_piece *piece = piece_at(edge, start);
+/* Where an exponent at one Y passes zero, or what it is kept within, the states at another. */
+static void add_transitions(fitted_property of, int64_t edge, int64_t y) {
+    for (int64_t start = fit_start(of) + 1; start <= fit_limit(of, edge); start += 50000) {
+        const fit_piece *piece = piece_at(of, edge, start);
         long double c1 = piece->exponent[0], c2 = piece->exponent[1], c3 = piece->exponent[2], c4 = piece->exponent[3];
         long double at = (long double)edge / 1000000.0L;
-        long double z = -(c1 + c2 * at) / (c3 + c4 * at) * 1000000.0L;
-        if (piece->weighed && fabsl(z - (long double)start) < 25000.0L)
-            add_around(1, y, (int64_t)z);
+        for (int side = -1; piece->weighed && side <= 1; side++) {
+            long double q = (long double)(side * piece->kept);
+            long double z = (q - c1 - c2 * at) / (c3 + c4 * at) * 1000000.0L;
+            if ((side == 0 || piece->kept != 0) && fabsl(z - (long double)start) < 25000.0L)
+                add_around(fitted_kind(of), y, (int64_t)z);
+        }
     }
 }
 
-/* Where G at one Y passes its upper limit (it comes nowhere near the lower one), the states at another. */
+/* Where a temperature's G at one Y passes its upper limit, the states at another. It comes nowhere near the lower one,
+ * and gamma, which stays from 1.07 to 1.41, near none of its own. */
 static void add_fit_limits(int64_t edge, int64_t y) {
     const int64_t limit = HIGHEST_FIT, stride = 20000;
     for (int64_t z = 2000000; z < HIGHEST_Z; z += stride) {
         int64_t low = z, high = z + stride;
-        bool starts_within = fit_near(edge, low) <= limit;
-        if ((fit_near(edge, high) <= limit) == starts_within)
+        bool starts_within = fit_near(TEMPERATURE, edge, low) <= limit;
+        if ((fit_near(TEMPERATURE, edge, high) <= limit) == starts_within)
             continue;
         while (high - low > 1) {
             int64_t middle = (low + high) / 2;
-            if ((fit_near(edge, middle) <= limit) == starts_within)
+            if ((fit_near(TEMPERATURE, edge, middle) <= limit) == starts_within)
                 low = middle;
             else
                 high = middle;
@@ -132,17 +164,18 @@ static void add_exact_limits(void) {
         add_around(1, points[i][0], points[i][1]);
 }
 
-/* Temperatures on, beside and between the edges of a strip: in every piece of either edge, and where the transition or
+/* Fitted states on, beside and between the edges of a strip: in every piece of either edge, and where the transition or
  * the limit of an edge's own fit lies. */
-static void add_strip(density_strip strip) {
+static void add_strip(fitted_property of, density_strip strip) {
     const int64_t middle = (strip.lower + strip.upper) / 2, edges[] = {strip.lower, strip.upper};
     const int64_t ys[] = {strip.lower, strip.lower + 1, middle, strip.upper - 1, strip.upper};
     for (size_t i = 0; i < LENGTH(ys); i++) {
-        for (size_t j = 0; j < LENGTH(temperature_middles); j++)
-            add_around(1, ys[i], temperature_middles[j]);
+        for (size_t j = 0; j < z_middles[of].count; j++)
+            add_around(fitted_kind(of), ys[i], z_middles[of].z[j]);
         for (size_t j = 0; j < LENGTH(edges); j++) {
-            add_transitions(edges[j], ys[i]);
-            add_fit_limits(edges[j], ys[i]);
+            add_transitions(of, edges[j], ys[i]);
+            if (of == TEMPERATURE)
+                add_fit_limits(edges[j], ys[i]);
         }
     }
 }
@@ -150,8 +183,8 @@ static void add_strip(density_strip strip) {
 /* Strips, and a point in the wider one and one outside the narrower one where temperatures rise steeply: there a line
  * between exponents, or the other strip's width, leads far away. */
 static void add_strips(void) {
-    for (int i = 0; i < STRIPS; i++)
-        add_strip(density_strips[i]);
+    for (int i = 0; i < FITTED * STRIPS; i++)
+        add_strip((fitted_property)(i / STRIPS), density_strips[i % STRIPS]);
     add_around(1, -4490000, 2550000);
     add_around(1, -510000, 2450000);
 }
@@ -171,7 +204,8 @@ const air_state *edge_states(size_t *count) {
         add_plane_edges();
         add_strips();
         for (int64_t y = -7000000; y <= 3000000; y += 125000)
-            add_transitions(y, y);
+            for (int of = 0; of < FITTED; of++)
+                add_transitions((fitted_property)of, y, y);
         for (int64_t y = -7000000; y <= 3000000; y += 250000)
             add_fit_limits(y, y);
         add_exact_limits();
@@ -182,15 +216,15 @@ const air_state *edge_states(size_t *count) {
 }
 
 air_state plane_state(random_source *r, uint8_t kind) {
+    static const int64_t most[] = {[TEMPERATURE_KIND] = 2999000, [ENTROPY_KIND] = 4105000, [PRESSURE_KIND] = 3750000};
     int64_t y = random_between(r, -6999990, 2999990);
-    return state_near(kind, y, kind == 1 ? random_between(r, -999000, 2999000) : random_between(r, -999000, 4105000));
+    return state_near(kind, y, random_between(r, -999000, most[kind]));
 }
 
 /* Within twenty millionths of an edge in one direction or in both. */
 static air_state state_near_edge(random_source *r, uint8_t kind) {
     int64_t y = y_edges[random_below(r, LENGTH(y_edges))];
-    int64_t z = kind == 1 ? temperature_edges[random_below(r, LENGTH(temperature_edges))]
-                          : entropy_edges[random_below(r, LENGTH(entropy_edges))];
+    int64_t z = z_edges[kind].z[random_below(r, z_edges[kind].count)];
     uint64_t which = random_below(r, 3);
     if (which == 0)
         y = random_between(r, -6999990, 2999990);
@@ -216,7 +250,7 @@ static uint64_t any_size(random_source *r, uint64_t low, uint64_t high) {
 }
 
 air_state random_state(random_source *r) {
-    uint8_t kind = (uint8_t)(1 + random_below(r, 2));
+    uint8_t kind = random_kinds[random_below(r, LENGTH(random_kinds))];
     switch (random_below(r, 16)) {
     case 0:
         return (air_state){(uint8_t)random_bits(r), random_bits(r) >> random_below(r, 64),
@@ -231,10 +265,7 @@ air_state random_state(random_source *r) {
     case 5:
     case 6:
         return state_in_strip(r, kind);
-    case 7:
-    case 8:
-        return plane_state(r, 2);
     default:
-        return plane_state(r, 1);
+        return plane_state(r, kind);
     }
 }

@@ -59,6 +59,8 @@ refuses_list() {
 expect "the example prints what is stored" prints_example example.txt sample.eas nose%2fcap%201 42 hot 43 a%2
 expect "the example prints joined temperatures" prints_example example-joined.txt slash-and-space.eas \
     strip%2fT%20low%201 strip%2Fcold%20low refused%2FG%20at%20dense%20end
+expect "the example prints pressures" prints_example example-pressure.txt energy-and-pressure.eas \
+    low%2fminus%204 upper-edge%2Fon%204 upper-edge%2fbeyond thinnest
 expect "no entry uses 128 KB of stack" "$build/stack"
 expect "the benchmark runs" "$build/bench" 1000
 if test $# -gt 0; then

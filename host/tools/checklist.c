@@ -15,7 +15,8 @@ static const char help[] = "Makes the field engineer's five checks on each SHEET
                            "that shares no code with the library. A check that lacks a state in a SHEET says so\n"
                            "and is no pass for it: the status is 0 only where every check passed, else 1.";
 
-static const char *const samples[] = {"sample", "slash-and-space", "digits-only", "edges-and-transitions"};
+static const char *const samples[] = {"sample", "slash-and-space", "digits-only", "edges-and-transitions",
+                                      "energy-and-pressure"};
 
 enum { SAMPLE_COUNT = sizeof samples / sizeof *samples, LEFT = 4, INDENT = 7 };
 
@@ -57,6 +58,7 @@ static const char *const cause_words[] = {
     [UNDUE_VALUE] = "wrong: a value means nothing here",
     [NEIGHBOURS] = "wrong: by the curve of the neighbouring density range",
     [NOT_JOINED] = "wrong: by the curve of one density range, not joined between two",
+    [END_DENSITIES] = "wrong: joined with the densities of the strip's ends, not with the state's own",
     [SIGN_LOST] = "wrong: the two curves of the transition are weighed the wrong way round",
     [OTHERWISE] = "wrong",
 };
@@ -105,7 +107,7 @@ static void print_shown(const fault *f, way w) {
     else if (f->name->absent)
         snprintf(text, sizeof text, "a value");
     else
-        snprintf(text, sizeof text, "%.6f %s", in_units(&state->record, s.value),
+        snprintf(text, sizeof text, "%.6f %s", shown_in_units(&state->record, &s),
                  kind_of(state->record.kind)->wanted->unit);
     printf("%*s%-13s %s (%s", INDENT, "", way_words[w], text, cause_words[f->causes[w]]);
     size_t other = f->causes[w] == RIGHT ? SIZE_MAX : state_shown(f->sheet, f->name, &s);

@@ -23,6 +23,17 @@ double in_units(const eas_record *record, int64_t value) {
     return (double)value / pow(10, kind_of(record->kind)->wanted->decimals);
 }
 
+/* How large the unit is in which a mark shows a value less exactly than an answer, else 0. */
+static double mark_unit(const eas_record *record, const shown *s) {
+    const kind_row *kind = kind_of(record->kind);
+    return s->has_z || kind->mark_decimals == kind->wanted->decimals ? 0 : pow(10, -(double)kind->mark_decimals);
+}
+
+double shown_in_units(const eas_record *record, const shown *s) {
+    double unit = mark_unit(record, s);
+    return unit > 0 ? unit * (double)s->value : in_units(record, s->value);
+}
+
 /* ---- what is shown */
 
 static shown read_line(const listing_line *line) {
@@ -66,12 +77,24 @@ static bool is_line(const asked_name *name, const listing_line *line, const eas_
     return line->length == due.length && !memcmp(line->bytes, due.bytes, due.length);
 }
 
+/* How far what is shown is from a value, beyond what a mark's unit leaves, which is rounded down. */
+static double off_by(double shown, double unit, double value) {
+    return fmax(fabs(shown + unit / 2 - value) - unit / 2, 0);
+}
+
+/* Where the library's answer is wrong: a mark that shows less of it may show what is right. */
+static bool shows_right(const eas_mark *mark, const named_state *s) {
+    shown m = read_mark(mark);
+    double unit = mark_unit(&s->record, &m), value = shown_in_units(&s->record, &m);
+    return unit > 0 && m.readable && !m.number && !s->right.number && off_by(value, unit, s->right.value) == 0;
+}
+
 static bool is_right(const asked_name *name, const named_state *s, way w) {
     const eas_answer nobody = {.number = 9}, *truth = name->absent ? &nobody : &s->truth;
     if (!name->absent && w == BY_SEARCH)
         return !judge_answer((uint8_t)s->record.kind, s->record.first, s->record.second, &name->answer);
     if (!name->absent && !s->allowed)
-        return false;
+        return w == BY_PLOT && shows_right(&name->mark, s);
     if (w == BY_SEARCH)
         return !answers_differ(truth, &name->answer);
     return w == BY_PLOT ? is_mark(&name->mark, truth)
@@ -88,25 +111,38 @@ size_t state_shown(const asked_sheet *sheet, const asked_name *name, const shown
         const eas_answer *a = &sheet->states[i].truth;
         bool is_other = sheet->states[i].allowed && (name->absent || i != name->state);
         bool is_row = i == row || i + 1 == row;
-        bool is_value = !s->number && s->y == a->y && s->value == a->value && (!s->has_z || s->z == a->z);
+        int64_t value = s->has_z ? a->value : (int64_t)mark_of(a).point.up;
+        bool is_value = !s->number && s->y == a->y && s->value == value && (!s->has_z || s->z == a->z);
         if (is_other && s->number == a->number && (is_value || (s->number && is_row)))
             return i;
     }
     return SIZE_MAX;
 }
 
-static bool is_wrong_value(double value, double wrong, const right_state *right) {
-    return right->fitted && same_value(value, wrong) && !same_value(wrong, right->value);
+/* How far what is shown is from a wrong value, in parts of it; HUGE_VAL where it is not that one. */
+static double distance_to(double value, double wrong, double unit, const right_state *right) {
+    double off = off_by(value, unit, wrong);
+    bool is_it = right->fitted && wrong != 0 && off <= 1e-5 * fabs(wrong) && !same_value(wrong, right->value);
+    return is_it ? off / fabs(wrong) : HUGE_VAL;
 }
 
-static cause cause_by_value(double value, const right_state *right) {
-    for (int i = 0; i < RANGES; i++)
-        if (is_wrong_value(value, right->one_range[i], right))
-            return right->joined ? NOT_JOINED : NEIGHBOURS;
-    for (int i = 0; i < LOST_SIGNS; i++)
-        if (is_wrong_value(value, right->sign_lost[i], right))
-            return SIGN_LOST;
-    return OTHERWISE;
+/* The cause whose wrong value is the nearest. */
+static cause cause_by_value(double value, double unit, const right_state *right) {
+    double least = HUGE_VAL;
+    cause nearest = OTHERWISE;
+    for (int i = 0; i < RANGES + LOST_SIGNS + 1; i++) {
+        double wrong = i < RANGES                ? right->one_range[i]
+                       : i < RANGES + LOST_SIGNS ? right->sign_lost[i - RANGES]
+                                                 : right->end_densities;
+        double distance = distance_to(value, wrong, unit, right);
+        if (distance >= least)
+            continue;
+        least = distance;
+        nearest = i < RANGES                ? right->joined ? NOT_JOINED : NEIGHBOURS
+                  : i < RANGES + LOST_SIGNS ? SIGN_LOST
+                                            : END_DENSITIES;
+    }
+    return nearest;
 }
 
 static cause cause_of(const asked_sheet *sheet, const asked_name *name, way w) {
@@ -123,7 +159,7 @@ static cause cause_of(const asked_sheet *sheet, const asked_name *name, way w) {
         return ANOTHERS;
     if (s.number || right->number)
         return s.number ? OTHERWISE : UNDUE_VALUE;
-    return cause_by_value(in_units(&state->record, s.value), right);
+    return cause_by_value(shown_in_units(&state->record, &s), mark_unit(&state->record, &s), right);
 }
 
 /* ---- which check it is for */
@@ -163,7 +199,7 @@ static unsigned place_in_transition(const right_state *right) {
 
 static unsigned places_by_value(const right_state *right) {
     if (right->number)
-        return right->number == 12 ? BIT(OUT_OF_REACH) : right->number == 13 ? BIT(TOO_HOT) : 0;
+        return right->number == 12 || right->number == 17 ? BIT(OUT_OF_REACH) : right->number == 13 ? BIT(TOO_HOT) : 0;
     return place_at_edge(right) | place_in_transition(right);
 }
 
@@ -174,7 +210,7 @@ static unsigned charged_checks(const asked_name *name, unsigned looking, cause c
         return BIT(name->as == ROW_NUMBER ? DIGITS : SIGNS);
     if (c == NOT_FOUND || c == ANOTHERS)
         return by_name ? by_name : BIT(OTHERS);
-    if ((c == NEIGHBOURS || c == NOT_JOINED) && by_value & BIT(EDGES))
+    if ((c == NEIGHBOURS || c == NOT_JOINED || c == END_DENSITIES) && by_value & BIT(EDGES))
         return BIT(EDGES);
     if (c == SIGN_LOST && by_value & BIT(TRANSITION))
         return BIT(TRANSITION);

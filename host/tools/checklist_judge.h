@@ -29,17 +29,19 @@ extern const unsigned check_places[TALLIES];
 
 typedef enum {
     RIGHT,
-    NOT_FOUND,    /* refused as a name that no state has, or missing from the run list */
-    FOUND_ABSENT, /* something is shown for a name that no state has */
-    ANOTHERS,     /* another state's answer */
-    UNDUE_VALUE,  /* a value where a refusal is due */
-    NEIGHBOURS,   /* by the curves of the neighbouring density band */
-    NOT_JOINED,   /* by the curves of one band in a strip */
-    SIGN_LOST,    /* with the sign of the weight's exponent lost */
+    NOT_FOUND,     /* refused as a name that no state has, or missing from the run list */
+    FOUND_ABSENT,  /* something is shown for a name that no state has */
+    ANOTHERS,      /* another state's answer */
+    UNDUE_VALUE,   /* a value where a refusal is due */
+    NEIGHBOURS,    /* by the curves of the neighbouring density band */
+    NOT_JOINED,    /* by the curves of one band in a strip */
+    END_DENSITIES, /* a joined pressure with the densities of the strip's ends */
+    SIGN_LOST,     /* with a sign lost in the weight */
     OTHERWISE
 } cause;
 
-/* What a way shows: a refusal, or the logarithm of the density ratio and the value in an answer's units. */
+/* What a way shows: a refusal, or the logarithm of the density ratio and the value, in an answer's units or, without Z,
+ * in a mark's. */
 typedef struct {
     bool readable, has_z;
     uint32_t number;
@@ -71,7 +73,8 @@ void judge_sheet(const asked_sheet *sheet, tally tallies[TALLIES]);
 /* The state other than the name's own whose answer this is; SIZE_MAX where there is none. */
 size_t state_shown(const asked_sheet *sheet, const asked_name *name, const shown *s);
 
-/* A value in kelvin or J/(kg K). */
+/* An answer's value, and what is shown of it, in kelvin, J/(kg K) or pascal. */
 double in_units(const eas_record *record, int64_t value);
+double shown_in_units(const eas_record *record, const shown *s);
 
 #endif

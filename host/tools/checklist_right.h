@@ -18,20 +18,21 @@ enum { RANGES = 2, LOST_SIGNS = 3 };
 
 typedef struct {
     uint32_t number;   /* 0, or the refusal that is due */
-    double value;      /* kelvin or J/(kg K); 0 for a refusal */
+    double value;      /* kelvin, J/(kg K) or pascal; 0 for a refusal */
     density_edge edge; /* the density edge whose strip the state is in or beside, if it is not refused */
     strip_side side;
-    bool fitted;                  /* a temperature that is not a perfect gas's */
+    bool fitted;                  /* a temperature that is not a perfect gas's, or a pressure */
     bool joined;                  /* a fitted one inside a strip */
     bool blended;                 /* its fit, or one of both, passes from one curve to a second one */
-    double weight;                /* of the second curve, 0 to 1; in a join that at the thinner end */
-    double one_range[RANGES];     /* near an edge, the temperature by the curves of one density range alone */
-    double sign_lost[LOST_SIGNS]; /* the wrong temperature with the sign of the weight's exponent lost */
+    double weight;                /* of the second curve, mostly 0 to 1; in a join that at the thinner end */
+    double one_range[RANGES];     /* near an edge, the value by the curves of one density range alone */
+    double sign_lost[LOST_SIGNS]; /* the wrong value with a sign lost in the weight */
+    double end_densities; /* the wrong joined pressure whose ends have the densities of the strip's ends, else 0 */
 } right_state;
 
 right_state right_of(const eas_record *record);
 
-/* Whether two temperatures are as one: the free digits move a temperature by less. */
+/* Whether two values are as one: the free digits move a value by less. */
 bool same_value(double a, double b);
 
 #endif

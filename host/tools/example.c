@@ -12,26 +12,36 @@
 
 static uint8_t sheet[EAS_SHEET_ROOM + 1]; /* one byte more than the largest sheet, so that a longer file is refused */
 
-static void print_fit(const char *which, eas_edge e) {
-    printf("  %s: G %.6f, W %.6f", which, (double)e.fit / 1e10, (double)e.weight / 1e10);
+static void print_value(uint32_t letter, int64_t value) {
+    if (letter == 'T')
+        printf("temperature %.6f K", (double)value / 1e6);
+    else if (letter == 'S')
+        printf("entropy %.4f J/(kg K)", (double)value / 1e4);
+    else
+        printf("pressure %.6f Pa", (double)value / 1e6);
+}
+
+static void print_fit(const char *which, uint32_t letter, eas_edge e) {
+    const char *fit = letter == 'T' ? "G" : "gamma";
+    printf("  %s: %s %.6f, W %.6f%s", which, fit, (double)e.fit / 1e10, (double)e.weight / 1e10, e.value ? ", " : "");
     if (e.value)
-        printf(", temperature %.6f K", (double)e.value / 1e6);
+        print_value(letter, e.value);
     printf("\n");
 }
 
 static void print_search(eas_answer a) {
+    printf("  search: ");
     if (a.number)
-        printf("  search: refusal %u: %s\n", a.number, eas_reason(a.number));
-    else if (a.letter == 'T')
-        printf("  search: temperature %.6f K\n", (double)a.value / 1e6);
+        printf("refusal %u: %s", a.number, eas_reason(a.number));
     else
-        printf("  search: entropy %.4f J/(kg K)\n", (double)a.value / 1e4);
+        print_value(a.letter, a.value);
+    printf("\n");
     if (a.carries & EAS_CARRIES_LOGS)
         printf("  logarithms: Y %.6f, Z %.6f\n", (double)a.y / 1e6, (double)a.z / 1e6);
     if (a.carries & EAS_CARRIES_LOW)
-        print_fit(a.carries & EAS_CARRIES_HIGH ? "fit at the low edge" : "fit", a.low);
+        print_fit(a.carries & EAS_CARRIES_HIGH ? "fit at the low edge" : "fit", a.letter, a.low);
     if (a.carries & EAS_CARRIES_HIGH)
-        print_fit("fit at the high edge", a.high);
+        print_fit("fit at the high edge", a.letter, a.high);
 }
 
 static void print_mark(eas_mark mark) {

@@ -10,8 +10,9 @@ static const quantity entropy = {"entropy", "J/(kg K)", "entropy_J_kg_K", 4};
 
 /* Where a line of text names no kind, the first row that has its columns is taken. */
 const kind_row kinds[KIND_COUNT] = {
-    {1, 'T', &pressure, &density, &temperature},
-    {2, 'S', &energy, &density, &entropy},
+    {1, 'T', &pressure, &density, &temperature, 6},
+    {2, 'S', &energy, &density, &entropy, 4},
+    {3, 'P', &energy, &density, &pressure, 0},
 };
 
 const quantity *const given[GIVEN_COUNT] = {&pressure, &energy, &density};

@@ -17,9 +17,10 @@ typedef struct {
     uint8_t kind;
     char letter; /* in an answer and a listing line */
     const quantity *first, *second, *wanted;
+    unsigned mark_decimals; /* a plot mark has the wanted quantity in units of 10^-mark_decimals */
 } kind_row;
 
-enum { KIND_COUNT = 2, GIVEN_COUNT = 3 };
+enum { KIND_COUNT = 3, GIVEN_COUNT = 3 };
 
 extern const kind_row kinds[KIND_COUNT];
 

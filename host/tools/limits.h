@@ -19,16 +19,21 @@
 #define LEAST_ENERGY UINT64_C(7840840)
 #define MOST_ENERGY UINT64_C(1000000000000)
 
-/* The largest G of a temperature that is shown, in units of 10^-10. */
+/* The largest G of a temperature that is shown, and what a shown pressure's gamma lies between, in units of 10^-10. */
 #define MOST_FIT INT64_C(19600000000)
+#define BELOW_GAMMA INT64_C(10100000000)
+#define ABOVE_GAMMA INT64_C(20000000000)
+
+/* A minus transition's exponent is at least this far from 0, in the same units. */
+#define LEAST_MINUS_EXPONENT INT64_C(500000000)
 
 /* The rest is in millionths: Y and Z as an answer carries them. */
 #define MILLIONTHS(number) ((number) / 1e6)
 
 enum { LEAST_Y = -7000000, MOST_Y = 3000000 };
 
-/* Density bands; an edge belongs to the lower one. Strictly inside a strip around each edge entropy is joined, and
- * temperature where its Z is above PERFECT_Z. */
+/* Density bands; an edge belongs to the lower one. Strictly inside a strip around each edge entropy and pressure are
+ * joined, and temperature where its Z is above PERFECT_Z. */
 enum { LOW, MIDDLE, HIGH };
 enum { LOWER_EDGE = -4500000, UPPER_EDGE = -500000, LOWER_HALF = 25000, UPPER_HALF = 5000 };
 
@@ -43,6 +48,17 @@ static const int32_t piece_end[3][PIECE_ENDS] = {
 /* Z of an entropy: the end of the perfect gas, and each band's largest. */
 enum { PERFECT_ENTROPY_Z = 650000 };
 static const int32_t entropy_most_z[3] = {[LOW] = 3690000, [MIDDLE] = 3400000, [HIGH] = 3000000};
+
+/* Z of a pressure: the ends of each band's pieces, of which the last is the band's largest. */
+enum { PRESSURE_ENDS = 6 };
+static const int32_t pressure_end[3][PRESSURE_ENDS] = {
+    [LOW] = {650000, 1500000, 2200000, 3050000, 3400000, 3690000},
+    [MIDDLE] = {650000, 1500000, 2220000, 2950000, 3400000, 3400000},
+    [HIGH] = {650000, 1700000, 2350000, 2900000, 2900000, 2900000},
+};
+static inline int32_t pressure_most_z(int band) {
+    return pressure_end[band][PRESSURE_ENDS - 1];
+}
 
 static inline int density_band(int64_t y) {
     return y <= LOWER_EDGE ? LOW : y <= UPPER_EDGE ? MIDDLE : HIGH;

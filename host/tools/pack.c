@@ -119,13 +119,22 @@ static bool has_values(const packing *p) {
     return false;
 }
 
-/* The columns that each kind needs, for messages. */
+/* Whether an earlier kind is given by the same columns. */
+static bool repeats_columns(int kind) {
+    for (int i = 0; i < kind; i++)
+        if (kinds[i].first == kinds[kind].first && kinds[i].second == kinds[kind].second)
+            return true;
+    return false;
+}
+
+/* The columns that the kinds need, for messages. */
 static const char *wanted_columns(void) {
     static char text[256];
     size_t used = 0;
     for (int i = 0; i < KIND_COUNT && used < sizeof text; i++)
-        used += (size_t)snprintf(text + used, sizeof text - used, "%s%s with %s", i > 0 ? ", or " : "",
-                                 kinds[i].first->heading, kinds[i].second->heading);
+        if (!repeats_columns(i))
+            used += (size_t)snprintf(text + used, sizeof text - used, "%s%s with %s", i > 0 ? ", or " : "",
+                                     kinds[i].first->heading, kinds[i].second->heading);
     return text;
 }
 

@@ -13,17 +13,24 @@
 
 const colour black = {0.1, 0.1, 0.1}, dark = {0.2, 0.2, 0.2}, grey = {0.45, 0.45, 0.45}, light = {0.9, 0.9, 0.9};
 
-static const colour panel_inks[KIND_COUNT] = {{0.75, 0.22, 0.17}, {0.12, 0.37, 0.66}};
+static const colour panel_inks[KIND_COUNT] = {{0.75, 0.22, 0.17}, {0.12, 0.37, 0.66}, {0.13, 0.47, 0.25}};
 
 /* Heights on the page. */
-enum { TITLE = 30, RULER = 56, FIRST_PANEL = 130, PANEL = 430, ONLY_PANEL = 640, BELOW_PANEL = 112 };
+enum { TITLE = 30, RULER = 56, FIRST_PANEL = 130, PANEL = 430, ONLY_PANEL = 640, BELOW_PANEL = 112, LEGEND_PITCH = 16 };
 
 double across_of(const item *it) {
     return (it->mark.point.across + LEAST_Y) / 1e6;
 }
 
 double up_of(const item *it, const kind_row *kind) {
-    return it->mark.point.up / pow(10, kind->wanted->decimals);
+    return it->mark.point.up / pow(10, kind->mark_decimals);
+}
+
+/* With two decimals where a mark has any. */
+const char *value_text(const item *it, const kind_row *kind) {
+    static char text[32];
+    snprintf(text, sizeof text, "%.*f", kind->mark_decimals > 0 ? 2 : 0, up_of(it, kind));
+    return text;
 }
 
 bool is_point_of(const item *it, const kind_row *kind) {
@@ -56,6 +63,28 @@ static void gather(chart *c, const uint8_t *sheet, size_t n) {
     }
 }
 
+/* The shapes of marks, and what they are called. */
+enum { SHAPES = 3 };
+static const item shapes[SHAPES] = {{.fitted = false}, {.fitted = true}, {.fitted = true, .joined = true}};
+
+/* Whether a panel has a mark of this shape. */
+static bool has_shape(const chart *c, const panel *p, const item *shape) {
+    for (unsigned i = 0; i < c->count; i++) {
+        const item *it = &c->items[i];
+        if (is_point_of(it, p->kind) && it->fitted == shape->fitted && it->joined == shape->joined)
+            return true;
+    }
+    return false;
+}
+
+/* A line for each shape of each panel, and two for the curves. */
+static int legend_lines(const chart *c) {
+    int lines = 2;
+    for (unsigned i = 0; i < c->panel_count * SHAPES; i++)
+        lines += has_shape(c, &c->panels[i / SHAPES], &shapes[i % SHAPES]);
+    return lines;
+}
+
 /* A panel for each kind that has a point, one below the other. */
 static void lay_out_panels(chart *c) {
     for (int k = 0; k < KIND_COUNT; k++) {
@@ -71,6 +100,7 @@ static void lay_out_panels(chart *c) {
         c->panels[i].bottom = top + height;
     }
     c->plot_bottom = c->panel_count > 0 ? top - BELOW_PANEL + 64 : FIRST_PANEL + 40;
+    c->list_top = fmax(LIST_TOP, TITLE + LEGEND_PITCH * legend_lines(c) - 2);
 }
 
 /* A line of the legend; returns the next one's height. */
@@ -78,26 +108,15 @@ static double legend(figure *f, double y, const item *shape, colour ink, const c
     if (shape)
         draw_shape(f, (point){LIST_LEFT + 8, y - 4}, ink, 4, shape);
     f->text(f, (point){LIST_LEFT + 24, y}, (lettering){11, dark, 0, false, false}, text);
-    return y + 16;
-}
-
-/* Whether a panel has a mark of this shape. */
-static bool has_shape(const chart *c, const panel *p, const item *shape) {
-    for (unsigned i = 0; i < c->count; i++) {
-        const item *it = &c->items[i];
-        if (is_point_of(it, p->kind) && it->fitted == shape->fitted && it->joined == shape->joined)
-            return true;
-    }
-    return false;
+    return y + LEGEND_PITCH;
 }
 
 /* The shapes of a panel's marks; returns the next line's height. */
 static double draw_shapes(figure *f, const chart *c, const panel *p, double y) {
-    static const item shapes[] = {{.fitted = false}, {.fitted = true}, {.fitted = true, .joined = true}};
     char perfect[32], text[96];
     snprintf(perfect, sizeof perfect, "perfect gas (Z up to %g)", MILLIONTHS(PERFECT_Z));
-    const char *const words[] = {perfect, "one band", "joined between two bands (shaded strips)"};
-    for (int i = 0; i < 3; i++) {
+    const char *const words[SHAPES] = {perfect, "one band", "joined between two bands (shaded strips)"};
+    for (int i = 0; i < SHAPES; i++) {
         snprintf(text, sizeof text, "%s, %s", p->kind->wanted->name, words[i]);
         if (has_shape(c, p, &shapes[i]))
             y = legend(f, y, &shapes[i], p->ink, text);
@@ -105,12 +124,18 @@ static double draw_shapes(figure *f, const chart *c, const panel *p, double y) {
     return y;
 }
 
+/* The last line says what Z is; pressures are spoken of where there are any. */
 static void draw_legend(figure *f, const chart *c, double y) {
-    for (unsigned i = 0; i < c->panel_count; i++)
+    bool has_pressures = false;
+    for (unsigned i = 0; i < c->panel_count; i++) {
         y = draw_shapes(f, c, &c->panels[i], y);
+        has_pressures |= c->panels[i].kind->letter == 'P';
+    }
     draw_line(f, LIST_LEFT - 2, y - 4, LIST_LEFT + 18, y - 4, (pen){grey, 1, true});
     y = legend(f, y, NULL, grey, "end of a fitted piece, or a limit, in Z, which is");
-    legend(f, y, NULL, grey, "log10 of p/p₀ over ρ/ρ₀, for entropy of e/e₀");
+    legend(f, y, NULL, grey,
+           has_pressures ? "log10 of p/p₀ over ρ/ρ₀, for entropy and pressure of e/e₀"
+                         : "log10 of p/p₀ over ρ/ρ₀, for entropy of e/e₀");
 }
 
 /* The file's name without its folders. */

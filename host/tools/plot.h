@@ -45,10 +45,11 @@ typedef struct {
     axis across; /* log10 of the density ratio */
     panel panels[KIND_COUNT];
     unsigned panel_count;
-    double plot_bottom, width, height;
+    double list_top, plot_bottom, width, height;
 } chart;
 
-/* The page: its largest and least width, the panels' left and right ends, and where the list beside them begins. */
+/* The page: its largest and least width, the panels' left and right ends, and where the list beside them begins, lower
+ * where the legend is long. */
 enum {
     PAGE_WIDTH = 1600,
     PAGE_LEAST = 1380,
@@ -64,6 +65,7 @@ extern const colour black, dark, grey, light;
 /* A state's place on the axes. */
 double across_of(const item *it);
 double up_of(const item *it, const kind_row *kind);
+const char *value_text(const item *it, const kind_row *kind);
 bool is_point_of(const item *it, const kind_row *kind);
 
 /* A value's place on the page. */

@@ -5,7 +5,7 @@
 #include "limits.h"
 #include "plot.h"
 
-enum { CURVE_STEPS = 240, RULER_HEIGHT = 14 };
+enum { CURVE_STEPS = 240, CURVES_MOST = 8, RULER_HEIGHT = 14 };
 
 /* A strip is drawn at least this wide, so that it is seen. */
 static const double STRIP_LEAST = 8;
@@ -32,17 +32,23 @@ static void widen(axis *a, double least, double part) {
     a->high += room;
 }
 
+/* Marks of 0, which a pressure below a pascal has, do not keep an axis from being logarithmic. */
 static void fit_up(const chart *c, panel *p) {
     axis a = {HUGE_VAL, -HUGE_VAL, false};
-    for (unsigned i = 0; i < c->count; i++)
-        if (is_point_of(&c->items[i], p->kind))
-            include(&a, up_of(&c->items[i], p->kind));
-    a.logarithmic = a.low > 0 && a.high > 8 * a.low;
+    double least = HUGE_VAL, unit = pow(10, -(double)p->kind->mark_decimals);
+    for (unsigned i = 0; i < c->count; i++) {
+        if (!is_point_of(&c->items[i], p->kind))
+            continue;
+        double up = up_of(&c->items[i], p->kind);
+        include(&a, up);
+        least = up > 0 ? fmin(least, up) : least;
+    }
+    a.logarithmic = a.low >= 0 && a.high > 8 * least;
     if (a.logarithmic) {
-        a.low /= 1.25;
+        a.low = least / 1.25;
         a.high *= 1.25;
     } else {
-        widen(&a, 0.02 * fabs(a.high), 0.08);
+        widen(&a, fmax(0.02 * fabs(a.high), unit), 0.08);
     }
     p->up = a;
 }
@@ -72,9 +78,11 @@ double page_x(const chart *c, double across) {
     return LEFT + (across - c->across.low) / (c->across.high - c->across.low) * (RIGHT - LEFT);
 }
 
+/* What is below a logarithmic axis stands at its end. */
 double page_y(const panel *p, double value) {
     const axis *a = &p->up;
-    double part = a->logarithmic ? log(value / a->low) / log(a->high / a->low) : (value - a->low) / (a->high - a->low);
+    double part =
+        a->logarithmic ? log(fmax(value / a->low, 1)) / log(a->high / a->low) : (value - a->low) / (a->high - a->low);
     return p->bottom - part * (p->bottom - p->top);
 }
 
@@ -84,11 +92,14 @@ static double tick_step(const axis *a, double most) {
     return rough <= power ? power : rough <= 2 * power ? 2 * power : rough <= 5 * power ? 5 * power : 10 * power;
 }
 
-/* As many decimals as the step has. */
+/* As many decimals as the step has; a large number by its power of ten. */
 static const char *tick_text(double value, double step) {
     static char text[32];
     int decimals = step < 1 ? (int)ceil(-log10(step) - 1e-9) : 0;
-    snprintf(text, sizeof text, "%.*f", decimals, fabs(value) < step / 1e6 ? 0 : value);
+    if (fabs(value) >= 1e7)
+        snprintf(text, sizeof text, "%g", value);
+    else
+        snprintf(text, sizeof text, "%.*f", decimals, fabs(value) < step / 1e6 ? 0 : value);
     return text;
 }
 
@@ -109,13 +120,14 @@ static void draw_tick_up(figure *f, const panel *p, double value, const char *te
     f->text(f, (point){LEFT - 9, y + 4}, (lettering){12, dark, 1, false, false}, text);
 }
 
+/* Five ticks a decade, three where there are over two decades, one where there are over six. */
 static void draw_logarithmic_ticks(figure *f, const panel *p) {
-    static const int digits[] = {1, 2, 3, 5, 7};
-    bool few = p->up.high < 200 * p->up.low;
+    static const int digits[] = {1, 2, 3, 5, 7}, least[] = {1, 3, 5, 3, 5}; /* each where there are at least so many */
+    int ticks = p->up.high < 200 * p->up.low ? 5 : p->up.high < 1e6 * p->up.low ? 3 : 1;
     for (double decade = pow(10, floor(log10(p->up.low))); decade < p->up.high; decade *= 10)
         for (int i = 0; i < 5; i++) {
             double value = digits[i] * decade;
-            if (value > p->up.low && value < p->up.high && (few || digits[i] == 1 || digits[i] == 2 || digits[i] == 5))
+            if (value > p->up.low && value < p->up.high && ticks >= least[i])
                 draw_tick_up(f, p, value, tick_text(value, decade));
         }
 }
@@ -222,7 +234,7 @@ static void label_run(figure *f, const panel *p, const point *points, size_t n, 
 
 /* A curve of constant Z over a band, without the strips where values of this Z are joined. */
 static void follow_curve(figure *f, const chart *c, const panel *p, int band, double z, use_run *use) {
-    bool joined = p->kind->letter == 'S' || z > MILLIONTHS(PERFECT_Z);
+    bool joined = p->kind->letter != 'T' || z > MILLIONTHS(PERFECT_Z);
     double from = fmax(c->across.low, band_end[band] + (joined ? strip_half[band] + 1e-6 : 1e-6));
     double to = fmin(c->across.high, band_end[band + 1] - (joined ? strip_half[band + 1] : 0));
     point points[CURVE_STEPS + 1];
@@ -239,14 +251,30 @@ static void follow_curve(figure *f, const chart *c, const panel *p, int band, do
     use(f, p, points, n, z);
 }
 
+/* The Z at which a piece of a band, its perfect gas or its fits as a whole end; returns how many. */
+static int curve_ends(const panel *p, int band, int32_t ends[CURVES_MOST]) {
+    const int32_t *pieces = p->kind->letter == 'T' ? piece_end[band] : pressure_end[band];
+    int n = 0;
+    if (p->kind->letter == 'S') {
+        ends[n++] = PERFECT_ENTROPY_Z;
+        ends[n++] = entropy_most_z[band];
+        return n;
+    }
+    if (p->kind->letter == 'T')
+        ends[n++] = PERFECT_Z;
+    for (int i = 0; i < (p->kind->letter == 'T' ? PIECE_ENDS : PRESSURE_ENDS); i++)
+        if ((i == 0 || pieces[i] > pieces[i - 1]) && (p->kind->letter != 'T' || pieces[i] < MOST_Z))
+            ends[n++] = pieces[i];
+    return n;
+}
+
 /* Each end of a piece and each limit in Z. */
 static void follow_curves(figure *f, const chart *c, const panel *p, use_run *use) {
     for (int band = 0; band < 3; band++) {
-        follow_curve(f, c, p, band, MILLIONTHS(p->kind->letter == 'T' ? PERFECT_Z : PERFECT_ENTROPY_Z), use);
-        if (p->kind->letter == 'S')
-            follow_curve(f, c, p, band, MILLIONTHS(entropy_most_z[band]), use);
-        for (int i = 0; p->kind->letter == 'T' && i < PIECE_ENDS && piece_end[band][i] < MOST_Z; i++)
-            follow_curve(f, c, p, band, MILLIONTHS(piece_end[band][i]), use);
+        int32_t ends[CURVES_MOST];
+        int count = curve_ends(p, band, ends);
+        for (int i = 0; i < count; i++)
+            follow_curve(f, c, p, band, MILLIONTHS(ends[i]), use);
     }
 }
 

@@ -91,7 +91,14 @@ static void measure(const chart *c) {
     }
     name_width = fmax(ceil(name_width), NAME_LEAST);
     across_width = text_width("log10 ρ/ρ₀", SIZE, false) + 10;
-    up_width = text_width("00000.00", SIZE, false) + 8;
+    up_width = text_width("00000.00", SIZE, false);
+    for (unsigned i = 0; i < c->count * c->panel_count; i++) {
+        const item *it = &c->items[i / c->panel_count];
+        const kind_row *kind = c->panels[i % c->panel_count].kind;
+        if (is_point_of(it, kind))
+            up_width = fmax(up_width, text_width(value_text(it, kind), SIZE, false));
+    }
+    up_width += 8;
     column_width = number_width + 8 + name_width + across_width + up_width;
 }
 
@@ -162,7 +169,7 @@ static int columns_in(double width) {
 
 /* Beside the panels, then below them; the page grows as the list does. */
 static void place_rows(chart *c) {
-    box beside = {LIST_LEFT, LIST_TOP, PAGE_WIDTH - PAGE_EDGE - LIST_LEFT, c->plot_bottom - LIST_TOP};
+    box beside = {LIST_LEFT, c->list_top, PAGE_WIDTH - PAGE_EDGE - LIST_LEFT, c->plot_bottom - c->list_top};
     int columns = columns_in(beside.w), needed = (int)ceil((double)row_count / floor(beside.h / PITCH - 1));
     size_t placed = fill_columns(0, beside, columns);
     c->height = c->plot_bottom + PAGE_EDGE;
@@ -206,8 +213,7 @@ static void draw_values(figure *f, const list_row *r) {
     double x = r->at.x + number_width + 8 + name_width + across_width;
     snprintf(text, sizeof text, "%.6f", across_of(r->it));
     f->text(f, (point){x, r->at.y}, right, text);
-    snprintf(text, sizeof text, "%.2f", up_of(r->it, r->of->p->kind));
-    f->text(f, (point){x + up_width, r->at.y}, right, text);
+    f->text(f, (point){x + up_width, r->at.y}, right, value_text(r->it, r->of->p->kind));
 }
 
 static void draw_row(figure *f, const list_row *r) {

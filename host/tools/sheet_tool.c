@@ -21,8 +21,10 @@ static const tool description = {
     "  name            the name as it is, or\n"
     "  spelled         the name with %2F for / and the like\n"
     "  pressure_Pa     with density_kg_m3: temperature is wanted (kind 1)\n"
-    "  energy_J_kg     with density_kg_m3: entropy is wanted (kind 2)\n"
-    "  kind            1 or temperature, 2 or entropy; may be left out beside these\n"
+    "  energy_J_kg     with density_kg_m3: entropy is wanted (kind 2), or pressure where\n"
+    "                  the column kind says so (kind 3)\n"
+    "  kind            1 or temperature, 2 or entropy, 3 or pressure; may be left out\n"
+    "                  beside these but for pressure\n"
     "  first, density  whole units instead: 1e-6 Pa or 1e-3 J/kg, and 1e-11 kg/m3\n"
     "Numbers are read exactly. Every wrong line is told, and then nothing is written.",
     options,

@@ -1,85 +1,68 @@
--- How far Y and Z reach in the piece that they choose.
+-- Where Y and Z lie in the piece that they choose.
 use mathlib.Core.Bool.{Bool, true, false, not, cond}
 use mathlib.Core.List.{List, [], _∷_}
 use mathlib.Core.Path.{_≡_, refl, sym, subst}
-use Prim.Native.Nat.{ℕ, suc, _+_, _≤_}
-use native.Mathlib.Nat.{le-refl, le-trans}
+use Prim.Native.Nat.{suc}
 use native.Mathlib.Omega.{arith}
-use borrow.Author.Tests.{leb-true, leb-false}
-use lib.Dec.{T, leb, nleb→lt}
-use lib.IntN.{ℤ, pos, negsuc, natAbs}
+use lib.Dec.{T, nleb→lt}
+use lib.IntN.{ℤ, pos, negsuc, negℤ}
 use lib.ListN.{getD}
 use lib.Signed.{_≤ℤ_, leZ, leZ-yes}
-use Rattle.integer.specs.Z.{up, dn, ≤→}
-use Rattle.integer.specs.Laws.{apart}
-use Rattle.fit.proofs.Distance.{Box, InBox, nowhere}
+use Rattle.integer.specs.Z.{→≤}
+use Rattle.fit.proofs.Box.{Box, InBox, nowhere}
 use Rattle.bands.specs.Units.{indexIn}
 use Rattle.bands.specs.declared.Band.{Band}
 use Rattle.bands.specs.declared.Band.the-variants.{Low, Middle, High}
 use Rattle.bands.specs.Bands.{bandOf, pickBand, lowEdge, highEdge}
 
--- ---- each part's box
-abbrev larger : ℕ → ℕ → ℕ
-larger n m = cond (leb n m) m n
-
-larger-left : (n m : ℕ) → n ≤ larger n m
-larger-left n m = go (leb n m) refl
+-- a test that fails says the other order
+below : (a b : ℤ) → leZ a b ≡ false → b ≤ℤ a
+below a b e = go a b (subst (λ (c : Bool). T (not c)) (sym e) tt)
   where
-    go : (c : Bool) → leb n m ≡ c → n ≤ cond c m n
-    go true e = leb-true n m e
-    go false e = le-refl n
+    go : (a b : ℤ) → T (not (leZ a b)) → b ≤ℤ a
+    go (pos a) (pos b) t = →≤ (omega (arith, nleb→lt a b t))
+    go (pos a) (negsuc b) t = leZ-yes tt
+    go (negsuc a) (pos b) t = absurd t
+    go (negsuc a) (negsuc b) t = →≤ (omega (arith, nleb→lt b a t))
 
-larger-right : (n m : ℕ) → m ≤ larger n m
-larger-right n m = go (leb n m) refl
-  where
-    go : (c : Bool) → leb n m ≡ c → m ≤ cond c m n
-    go true e = le-refl m
-    go false e = omega (arith, leb-false n m e)
+upto : (a b : ℤ) → leZ a b ≡ true → a ≤ℤ b
+upto a b e = leZ-yes (subst T (sym e) tt)
 
--- |Y| up to a, Z down to -n and up to each part's upper end, what the last reaches being given
-unfoldable pub boxes : ℕ → ℕ → List ℤ → ℕ → List Box
-boxes a n [] last = record { y = a; z = larger n last } ∷ []
-boxes a n (e ∷ es) last = record { y = a; z = larger n (natAbs e) } ∷ boxes a n es last
-
-within : (n m : ℕ) (z : ℤ) → dn z ≤ n → up z ≤ m → natAbs z ≤ larger n m
-within n m (pos x) h k = le-trans k (larger-right n m)
-within n m (negsuc x) h k = le-trans h (larger-left n m)
-
-abs-most : (z e : ℤ) → z ≤ℤ e → up z ≤ natAbs e
-abs-most (pos x) (pos e) h = omega (arith, ≤→ h)
-abs-most (pos x) (negsuc e) h = let f : ⊥ = omega (arith, ≤→ h) in absurd f
-abs-most (negsuc x) e h = omega arith
+-- ---- each part's box: Y from a to b, Z from the part's lower end to its upper, the first lower and the last upper end being given
+unfoldable pub boxes : ℤ → ℤ → ℤ → List ℤ → ℤ → List Box
+boxes a b from [] last = record { y-from = a; y-to = b; z-from = from; z-to = last } ∷ []
+boxes a b from (e ∷ es) last = record { y-from = a; y-to = b; z-from = from; z-to = e } ∷ boxes a b e es last
 
 -- a place lies in the box of the part that its Z falls to
-pub in-box : (a n : ℕ) (es : List ℤ) (last : ℕ) (y z : ℤ) → natAbs y ≤ a → dn z ≤ n → up z ≤ last → InBox (getD (boxes a n es last) (indexIn es z) nowhere) y z
+pub in-box : (a b from : ℤ) (es : List ℤ) (last y z : ℤ) → a ≤ℤ y → y ≤ℤ b → from ≤ℤ z → z ≤ℤ last → InBox (getD (boxes a b from es last) (indexIn es z) nowhere) y z
 unfolding boxes
-in-box a n [] last y z hy h k = record { y-most = hy; z-most = within n last z h k }
-in-box a n (e ∷ es) last y z hy h k = go (leZ z e) refl (in-box a n es last y z hy h k)
+in-box a b from [] last y z h k l m = record { y-least = h; y-most = k; z-least = l; z-most = m }
+in-box a b from (e ∷ es) last y z h k l m = go (leZ z e) refl (λ i. in-box a b e es last y z h k i m)
   where
-    go : (c : Bool) → leZ z e ≡ c → InBox (getD (boxes a n es last) (indexIn es z) nowhere) y z
-        → InBox (getD (record { y = a; z = larger n (natAbs e) } ∷ boxes a n es last) (cond c 0 (suc (indexIn es z))) nowhere) y z
-    go true eq r = record { y-most = hy; z-most = within n (natAbs e) z h (abs-most z e (leZ-yes (subst T (sym eq) tt))) }
-    go false eq r = r
+    go : (c : Bool) → leZ z e ≡ c → (e ≤ℤ z → InBox (getD (boxes a b e es last) (indexIn es z) nowhere) y z)
+        → InBox (getD (record { y-from = a; y-to = b; z-from = from; z-to = e } ∷ boxes a b e es last) (cond c 0 (suc (indexIn es z))) nowhere) y z
+    go true eq r = record { y-least = h; y-most = k; z-least = l; z-most = upto z e eq }
+    go false eq r = r (below z e eq)
 
--- how far Y reaches in a band, for Y from -7,000,000 to 3,000,000
-abbrev pub widest : Band → ℕ
-widest Low = 7000000
-widest Middle = 4500000
-widest High = 3000000
+-- ---- where Y lies in a band, for Y from -7,000,000 to 3,000,000
+abbrev pub bandFrom : Band → ℤ
+bandFrom Low = negℤ (pos 7000000)
+bandFrom Middle = lowEdge
+bandFrom High = highEdge
 
-above : (a b : ℤ) → T (not (leZ a b)) → up b + dn a ≤ up a + dn b
-above (pos a) (pos b) t = omega (arith, nleb→lt a b t)
-above (pos a) (negsuc b) t = omega arith
-above (negsuc a) (pos b) t = absurd t
-above (negsuc a) (negsuc b) t = omega (arith, nleb→lt b a t)
+abbrev pub bandTo : Band → ℤ
+bandTo Low = lowEdge
+bandTo Middle = highEdge
+bandTo High = pos 3000000
 
-pub widest-holds : (y : ℤ) → negsuc 6999999 ≤ℤ y → y ≤ℤ pos 3000000 → natAbs y ≤ widest (bandOf y)
-widest-holds y h l = go (leZ y lowEdge) (leZ y highEdge) refl refl
+pub record InBand (b : Band) (y : ℤ) : Type 0 where
+  pub least : bandFrom b ≤ℤ y
+  pub most : y ≤ℤ bandTo b
+
+pub in-band : (y : ℤ) → negℤ (pos 7000000) ≤ℤ y → y ≤ℤ pos 3000000 → InBand (bandOf y) y
+in-band y h l = go (leZ y lowEdge) (leZ y highEdge) refl refl
   where
-    no : {c : Bool} → c ≡ false → T (not c)
-    no e = subst (λ (b : Bool). T (not b)) (sym e) tt
-
-    go : (p q : Bool) → leZ y lowEdge ≡ p → leZ y highEdge ≡ q → natAbs y ≤ widest (pickBand p Low (pickBand q Middle High))
-    go true q e f = apart y 7000000 (omega (arith, ≤→ l)) (omega (arith, ≤→ h))
-    go false true e f = apart y 4500000 (omega (arith, ≤→ l)) (omega (arith, above y lowEdge (no e)))
-    go false false e f = apart y 3000000 (omega (arith, ≤→ l)) (omega (arith, above y highEdge (no f)))
+    go : (p q : Bool) → leZ y lowEdge ≡ p → leZ y highEdge ≡ q → InBand (pickBand p Low (pickBand q Middle High)) y
+    go true q e f = record { least = h; most = upto y lowEdge e }
+    go false true e f = record { least = below y lowEdge e; most = upto y highEdge f }
+    go false false e f = record { least = below y highEdge f; most = l }

@@ -4,11 +4,12 @@ use mathlib.Core.Option.{Option, none, some}
 use mathlib.Core.Path.{_≡_, refl, sym, ap, subst}
 use Prim.Native.Nat.{ℕ, suc, _≤_}
 use native.Mathlib.Omega.{arith}
-use lib.Dec.{T, leb, leb→le, le→leb, lit≤}
+use lib.Dec.{T, leb, leb→le, le→leb, nleb→lt, lit≤}
 use lib.IntN.{ℤ, pos, negsuc, negℤ, natAbs}
 use lib.Signed.{_≤ℤ_, ltZ, leZ-yes, ltZ-no, clashℤ}
 use Rattle.logarithm.specs.Log.{IsLog}
-use Rattle.integer.specs.Z.{up, dn}
+use Rattle.integer.specs.Z.{up, dn, ≤→}
+use Rattle.integer.specs.Laws.{apart}
 use Rattle.fraction.proofs.Order.{within-more}
 use Rattle.logarithm.proofs.Range.{log-least, log-most}
 use Rattle.bands.specs.Bands.{bandOf, stripOf}
@@ -18,22 +19,24 @@ use Rattle.bands.specs.declared.Region.the-variants.{Refused, Perfect, Fitted}
 use Rattle.perfect.specs.Perfect.{perfectGas}
 use Rattle.kind.specs.Kind.{kindOf}
 use Rattle.kind.specs.declared.Kind.{Kind}
-use Rattle.kind.specs.declared.Kind.the-variants.{Temperature, Entropy, Unknown}
+use Rattle.kind.specs.declared.Kind.the-variants.{Temperature, Entropy, Pressure, Unknown}
 use Rattle.air.specs.declared.Logs.{Logs}
 use Rattle.air.specs.declared.Edges.the-variants.{Unfitted}
 use Rattle.air.specs.declared.Ends.the-variants.{Unjoined}
 use Rattle.air.specs.declared.Answer.{Answer}
 use Rattle.air.specs.Quantities.{D0, E0, isDensity, isEnergy}
 use Rattle.air.specs.Held.{Held, held, refuses, judges, shows}
+use Rattle.air.specs.Ready.{PlaceReady}
 use Rattle.air.specs.Places.{valueAt, IsFit}
 use Rattle.air.specs.Temperature.{letterT, temperatureRule, TemperatureLogs, IsTemperatureIn, IsTemperature}
 use Rattle.air.specs.Entropy.{letterS, IsEntropy, entropyIn, entropyOf, beyondEntropy}
-use Rattle.air.specs.Accurate.{fitDistance, KelvinClaim, TemperatureClaim, EntropyClaim}
-use Rattle.air.specs.State.{Property, temperatureProperty, entropyProperty, propertyOf, Either, IsHeld, IsAnswer, refusesLogs, AcceptedBy, AcceptedAny, Accepted, ClaimAny, Accurate}
-use Rattle.air.proofs.Tests.{and-left, and-right, not-right, no-true, is-false, is-true, over, abs-of}
+use Rattle.air.specs.Pressure.{isWarned, pressureOf, pressureRule, IsPressureOf}
+use Rattle.air.specs.Accurate.{fitDistance, gammaDistance, KelvinClaim, TemperatureClaim, EntropyClaim, PressureClaim}
+use Rattle.air.specs.State.{Property, temperatureProperty, entropyProperty, pressureProperty, propertyOf, Either, IsHeld, IsAnswer, refusesLogs, AcceptedBy, AcceptedAny, Accepted, ClaimAny, Accurate}
+use Rattle.air.proofs.Tests.{and-left, and-right, not-left, not-right, no-true, is-false, is-true, over, abs-of}
 use Rattle.air.proofs.Places.{Measured, no-place, shown-claim, fitted-shown}
 use Rattle.air.proofs.Strips.{each-in-range}
-use Rattle.air.proofs.Fit.{YRange, FittedBox, fit-near}
+use Rattle.air.proofs.Fit.{YRange, FittedBox, GammaBox, fit-near, gamma-near}
 use Rattle.air.proofs.Entropy.{entropy-near}
 use Rattle.air.proofs.Between.{temperature-between}
 
@@ -68,6 +71,24 @@ z-least e z t h =
     let a : 7840840 ≤ e = leb→le 7840840 e (and-left (leb 7840840 e) (leb e 1000000000000) t) in
     le-of-dn 999999 z (log-least e E0 1 z (omega arith) h)
 
+-- a logarithm below 0 is that of a density of at most D0
+pub below-standard : (d : ℕ) (y : ℤ) → IsLog d D0 y → y ≤ℤ negsuc 0 → d ≤ D0
+below-standard d y h l = go (leb D0 d) refl
+  where
+    go : (b : Bool) → leb D0 d ≡ b → d ≤ D0
+    go true e = let f : ⊥ = omega (arith, ≤→ l, log-least d D0 0 y (omega (arith, leb→le D0 d (is-true e))) h) in absurd f
+    go false e = omega (arith, nleb→lt D0 d (is-false e))
+
+-- the logarithms of an energy and a density in range
+pub place-ready : (e d : ℕ) (y z : ℤ) → T (isEnergy e) → T (isDensity d) → IsLog d D0 y → IsLog e E0 z → PlaceReady y z
+place-ready e d y z te td hy hz =
+    let a : 7840840 ≤ e = leb→le 7840840 e (and-left (leb 7840840 e) (leb e 1000000000000) te) in
+    let b : e ≤ 1000000000000 = leb→le e 1000000000000 (and-right (leb 7840840 e) (leb e 1000000000000) te) in
+    record {
+      y-most = y-most d y td hy;
+      z-most = apart z 5000000 (omega (arith, log-most e E0 5 z (omega arith) hz)) (omega (arith, log-least e E0 1 z (omega arith) hz));
+    }
+
 -- ---- temperature
 module _ (n : ℕ) (n-least : 128 ≤ n) (p d : ℕ) (in-density : T (isDensity d)) (l : Logs) (taken : TemperatureLogs p d l) where
   perfect-claim : isPerfect (l .z) ≡ true → TemperatureClaim n p d (shows letterT l Unfitted Unjoined (pos (perfectGas p d)))
@@ -87,7 +108,7 @@ module _ (n : ℕ) (n-least : 128 ≤ n) (p d : ℕ) (in-density : T (isDensity 
   measured : Measured fitDistance n temperatureRule KelvinClaim FittedBox
   measured =
       record {
-        near = fit-near n n-least;
+        near = λ y z w b t. fit-near n n-least y z w b;
         claimed = λ f g v near it. record { kelvin = it .kelvin; is = it .is; between = temperature-between g f (it .kelvin) near (it .power) };
       }
 
@@ -149,6 +170,34 @@ entropy-claim e d h ok it = go (beyondEntropy l) refl (it .is)
           near = within-more (lit≤ tt) (entropy-near (l .y) (l .z) (record { density = y-range d (l .y) (ok .no-11) (it .taken .y); least = z-least e (l .z) (ok .no-10) (it .taken .z); most = is-false e₁ }));
         })
 
+-- ---- pressure
+module _ (n : ℕ) (n-least : 128 ≤ n) (e d : ℕ) where
+  gamma-measured : Measured gammaDistance n (pressureRule e d) (λ f g v. v ≡ pressureOf e d g) GammaBox
+  gamma-measured =
+      record {
+        near = λ y z w b t. gamma-near y z b (not-left (isWarned y z) _ t) n n-least w;
+        claimed = λ f g v near it. it;
+      }
+
+  pressure-claim : (h : Held) → AcceptedBy pressureProperty e d h → IsPressureOf e d h → PressureClaim n e d h
+  pressure-claim h ok it =
+      let l : Logs = it .logs in
+      let s = stripOf (l .y) in
+      let c = fitted-shown gammaDistance n (pressureRule e d) (λ f g v. v ≡ pressureOf e d g) GammaBox gamma-measured pressureProperty s l
+      (record { by-logs = λ t. t; by-fit = λ e t. t })
+      (each-in-range (l .y) (λ v. GammaBox v (l .z)) (λ v r. record { density = r; least = z-least e (l .z) (ok .no-10) (it .taken .z) }) (y-range d (l .y) (ok .no-11) (it .taken .y)))
+      e d h ok (it .is) in
+      record {
+        logs = l;
+        value = valueAt s (c .point) (l .y);
+        no-refusal = ap (λ (x : Held). x .number) (c .is);
+        letter = ap (λ (x : Held). x .letter) (c .is);
+        carries = ap (λ (x : Held). x .logs) (c .is);
+        shows = ap (λ (x : Held). x .value) (c .is);
+        taken = it .taken;
+        fitted = shown-claim s c;
+      }
+
 -- ---- any kind: what a new one proves
 pub record Sound (k : Property) : Type 1 where
   pub claim : (n : ℕ) → 128 ≤ n → (v w : ℕ) (h : Held) → AcceptedBy k v w h → k .Is v w h → k .Claim n v w h
@@ -161,6 +210,7 @@ SoundAny (some k) = Sound k
 sound : (k : Kind) → SoundAny (propertyOf k)
 sound Temperature = record { claim = temperature-claim; no-refusal = λ n v w h c. c .no-refusal }
 sound Entropy = record { claim = λ n m. entropy-claim; no-refusal = λ n v w h c. c .no-refusal }
+sound Pressure = record { claim = pressure-claim; no-refusal = λ n v w h c. c .no-refusal }
 sound Unknown = tt
 
 claim-any : (n : ℕ) → 128 ≤ n → (k : Option Property) → SoundAny k → (v w : ℕ) (h : Held) → AcceptedAny k v w h → IsHeld k v w h → ClaimAny n k v w h

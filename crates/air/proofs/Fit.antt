@@ -1,25 +1,39 @@
--- A fitted temperature's G is near the exact fit: the general theorem of fit, and one computed test over the table of pieces.
+-- A fitted temperature's G and a gamma are near their exact fits: the general theorem of fit, and one computed test over each table of pieces.
+use mathlib.Core.Bool.{Bool, true, false, not, _||_}
 use mathlib.Core.List.{List}
+use mathlib.Core.Path.{_≡_, refl, sym, subst}
 use Prim.Native.Nat.{ℕ, _≤_}
 use native.Mathlib.Omega.{arith}
 use lib.Dec.{T}
-use lib.IntN.{ℤ, pos, negsuc, negℤ}
-use lib.Signed.{_≤ℤ_, _<ℤ_}
-use Rattle.integer.specs.Z.{dn, ≤→, <→}
+use lib.IntN.{ℤ, pos, negℤ}
+use lib.ListN.{getD}
+use lib.Signed.{_≤ℤ_, _<ℤ_, ltZ-no}
+use Rattle.integer.specs.Z.{<→, →≤}
 use Rattle.fraction.specs.Fraction.{Within}
 use Rattle.weight.specs.Weight.{tolerance}
-use Rattle.fit.specs.Fit.{Weighs, fitted}
+use Rattle.fit.specs.Fit.{nearZero, Weighs, fitted}
+use Rattle.fit.specs.Exact.{inUnits, exactFit}
+use Rattle.fit.specs.Edge.{ServedAt}
 use Rattle.bicubic.proofs.Size.{size}
-use Rattle.fit.proofs.Distance.{Box, distance, allWithin, table-near}
+use Rattle.fit.proofs.Box.{Box, InBox, nowhere}
+use Rattle.fit.proofs.Nearest.{allWhole}
+use Rattle.fit.proofs.Pieces.{never-near}
+use Rattle.fit.proofs.Distance.{distanceOf, allPass, table-serves, table-near}
+use Rattle.bands.specs.Units.{indexIn}
 use Rattle.bands.specs.declared.Band.{Band}
 use Rattle.bands.specs.declared.Band.the-variants.{Low, Middle, High}
 use Rattle.bands.specs.Bands.{bandOf}
 use Rattle.bands.specs.Region.{temperatureEnds, temperatureIndex}
 use Rattle.tgas1_temperature.specs.Pieces.{temperaturePieces}
-use Rattle.air.proofs.Boxes.{boxes, in-box, widest, widest-holds}
+use Rattle.tgas1_gamma_low.specs.Pieces.{lowPieces}
+use Rattle.tgas1_gamma_middle.specs.Pieces.{middlePieces}
+use Rattle.tgas1_gamma_high.specs.Pieces.{highPieces}
+use Rattle.tgas1_gamma.specs.Gamma.{gammaEnds, gammaLimit, gammaPieces}
+use Rattle.air.proofs.Boxes.{boxes, in-box, bandFrom, bandTo, in-band}
 use Rattle.air.specs.Temperature.{pieceAt}
 use Rattle.air.specs.Exact.{exactTemperatureFit}
-use Rattle.air.specs.Accurate.{fitDistance}
+use Rattle.air.specs.Pressure.{gammaAt, isWarned, beyondGammaLogs}
+use Rattle.air.specs.Accurate.{fitDistance, gammaDistance}
 
 -- where Y lies for a density in range
 pub record YRange (y : ℤ) : Type 0 where
@@ -32,28 +46,28 @@ pub record FittedBox (y z : ℤ) : Type 0 where
   pub least : pos 250000 <ℤ z
   pub most : z ≤ℤ pos 3000000
 
--- where Y and Z can be in each piece
-abbrev reach : Band → List Box
-reach b = boxes (widest b) 0 (temperatureEnds b) 3000000
+-- where those of a gamma lie
+pub record GammaBox (y z : ℤ) : Type 0 where
+  pub density : YRange y
+  pub least : negℤ (pos 1000000) ≤ℤ z
 
-above-zero : (z : ℤ) → pos 250000 <ℤ z → dn z ≤ 0
-above-zero (pos x) h = omega arith
-above-zero (negsuc x) h = let f : ⊥ = omega (arith, <→ h) in absurd f
+-- ---- where Y and Z can be in each piece: from a Z on, by a band's ends, up to a last Z
+abbrev reach : ℤ → (Band → List ℤ) → (Band → ℤ) → Band → List Box
+reach from ends last b = boxes (bandFrom b) (bandTo b) from (ends b) (last b)
 
--- every temperature piece, for weights that are within k, is within d
-abbrev Passes : ℕ → ℕ → Type 0
-Passes d k = (b : Band) → T (allWithin d k (reach b) (temperaturePieces b))
-
-temperature-near : (d k : ℕ) → Passes d k → (n : ℕ) → 128 ≤ n → (y z w : ℤ) → FittedBox y z
-    → Weighs k (pieceAt y z) y z w → Within d (fitted (pieceAt y z) y z w) (exactTemperatureFit n y z)
-temperature-near d k t n most y z w box h =
+placed : (from : ℤ) (ends : Band → List ℤ) (last : Band → ℤ) (y z : ℤ) → YRange y → from ≤ℤ z → z ≤ℤ last (bandOf y)
+    → InBox (getD (reach from ends last (bandOf y)) (indexIn (ends (bandOf y)) z) nowhere) y z
+placed from ends last y z r h k =
     let b : Band = bandOf y in
-    let z-in : dn z ≤ 0 = above-zero z (box .least) in
-    table-near d k n (reach b) (temperaturePieces b) (t b) (temperatureIndex b z) y z w most
-    (in-box (widest b) 0 (temperatureEnds b) 3000000 y z (widest-holds y (box .density .least) (box .density .most)) z-in (omega (arith, ≤→ (box .most)))) h
+    let i = in-band y (r .least) (r .most) in
+    in-box (bandFrom b) (bandTo b) from (ends b) (last b) y z (i .least) (i .most) h k
 
-passes : Passes fitDistance tolerance
-unfolding allWithin distance size boxes temperaturePieces
+-- ---- temperature
+abbrev temperatureReach : Band → List Box
+temperatureReach = reach (pos 250000) temperatureEnds (λ b. pos 3000000)
+
+passes : (b : Band) → T (allPass inUnits fitDistance tolerance (temperatureReach b) (temperaturePieces b))
+unfolding allPass distanceOf size boxes allWhole temperaturePieces
 passes Low = tt
 passes Middle = tt
 passes High = tt
@@ -61,4 +75,40 @@ passes High = tt
 -- the distance of G from the exact fit, over every piece
 pub fit-near : (n : ℕ) → 128 ≤ n → (y z w : ℤ) → FittedBox y z → Weighs tolerance (pieceAt y z) y z w
     → Within fitDistance (fitted (pieceAt y z) y z w) (exactTemperatureFit n y z)
-fit-near = temperature-near fitDistance tolerance passes
+fit-near n most y z w box h =
+    let b : Band = bandOf y in
+    table-near inUnits fitDistance tolerance (temperatureReach b) (temperaturePieces b) (passes b) (temperatureIndex b z) y z
+    (placed (pos 250000) temperatureEnds (λ b. pos 3000000) y z (box .density) (→≤ (omega (arith, <→ (box .least)))) (box .most)) n w most h
+
+-- ---- gamma
+abbrev gammaReach : Band → List Box
+gammaReach = reach (negℤ (pos 1000000)) gammaEnds gammaLimit
+
+gamma-passes : (b : Band) → T (allPass inUnits gammaDistance tolerance (gammaReach b) (gammaPieces b))
+unfolding allPass distanceOf size boxes allWhole lowPieces middlePieces highPieces
+gamma-passes Low = tt
+gamma-passes Middle = tt
+gamma-passes High = tt
+
+module _ (y z : ℤ) (box : GammaBox y z) (told : T (not (isWarned y z))) where
+  gamma-placed : InBox (getD (gammaReach (bandOf y)) (indexIn (gammaEnds (bandOf y)) z) nowhere) y z
+  gamma-placed = placed (negℤ (pos 1000000)) gammaEnds gammaLimit y z (box .density) (box .least) (ltZ-no told)
+
+  -- a weight serves every exponent, and so none of a minus transition is near zero
+  pub gamma-served : ServedAt (gammaAt y z) y z
+  gamma-served =
+      let b : Band = bandOf y in
+      table-serves inUnits gammaDistance tolerance (gammaReach b) (gammaPieces b) (gamma-passes b) (indexIn (gammaEnds b) z) y z gamma-placed
+
+  pub gamma-near : (n : ℕ) → 128 ≤ n → (w : ℤ) → Weighs tolerance (gammaAt y z) y z w → Within gammaDistance (fitted (gammaAt y z) y z w) (exactFit (inUnits (gammaAt y z)) n y z)
+  gamma-near n most w h =
+      let b : Band = bandOf y in
+      table-near inUnits gammaDistance tolerance (gammaReach b) (gammaPieces b) (gamma-passes b) (indexIn (gammaEnds b) z) y z gamma-placed n w most h
+
+-- what refuses a gamma by the logarithms is the warning alone
+pub warned-only : (y z : ℤ) → GammaBox y z → beyondGammaLogs y z ≡ isWarned y z
+warned-only y z box = go (isWarned y z) refl
+  where
+    go : (b : Bool) → isWarned y z ≡ b → b || nearZero (gammaAt y z) y z ≡ b
+    go true e = refl
+    go false e = never-near (gammaAt y z) y z (gamma-served y z box (subst (λ (c : Bool). T (not c)) (sym e) tt))

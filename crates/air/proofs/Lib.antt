@@ -8,6 +8,7 @@ pub mod Entropy
 pub mod Claims
 pub mod Allowed
 pub mod AtEdges
+pub mod PressureAt
 pub mod ProofTable
 pub mod Sizes
 pub mod Pins

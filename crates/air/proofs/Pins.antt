@@ -12,8 +12,10 @@ use Rattle.fraction.proofs.Pins.{one-above, one-below, one-not-above, one-not-b
 use Rattle.logarithm.specs.Choice.{factors, factorLogs, points, rises, chordOf, nearOne, mantissaOf, lgOf, logOf}
 use Rattle.power.specs.Choice.{coarse, middle, fine, strideOf, stepOf, powerOf}
 use Rattle.quotient.specs.Mul.{mul}
-use Rattle.bicubic.specs.Bicubic.{gas1, gas2, gas3, gas4, bicubic}
+use Rattle.bicubic.specs.Bicubic.{gas1, gas2, gas3, gas4, bicubic, exponent}
 use Rattle.tgas1_temperature.specs.Pieces.{temperaturePieces}
+use Rattle.tgas1_gamma_low.specs.Pieces.{lowPieces}
+use Rattle.tgas1_gamma_middle.specs.Pieces.{middlePieces}
 use Rattle.perfect.specs.Perfect.{perfectGas}
 use Rattle.air.specs.declared.Edges.the-variants.{Unfitted, One, Two}
 use Rattle.air.specs.declared.Ends.the-variants.{Unjoined, Both}
@@ -25,10 +27,12 @@ use Rattle.air.specs.Choices.{chosen}
 use Rattle.air.specs.Places.{heldAt}
 use Rattle.air.specs.Temperature.{letterT}
 use Rattle.air.specs.Entropy.{letterS, entropyIn, entropyAt, perfectEntropy}
+use Rattle.air.specs.Pressure.{letterP}
 use Rattle.air.specs.Accurate.{fitDistance, entropyDistance, Between}
 use Rattle.air.specs.State.{Property, IsAnswer, temperatureBy, answerBy, refusesLogs, Accepted, unfitted, one, two}
 use Rattle.air.proofs.Allowed.{allowed, lawful}
 use Rattle.air.proofs.AtEdges.{logs, edge, at-edges}
+use Rattle.air.proofs.PressureAt.{pair, pressure-at}
 
 -- ---- T0 is ten to 0 over T0: it is between for k from -2 to 1
 pub between-at-less-2 : Between (negsuc 1) T0
@@ -95,4 +99,12 @@ joined-temperature =
     covered 1 13083925 4190468
     (Shows letterT (logs (negℤ (pos 3889000)) (negℤ (pos 4489000)) (pos 600000)) (Two (edge (pos 5985381782) (pos 0)) (edge (pos 5989039273) (pos 0))) (Both (pos 1083775189) (pos 1084686422)) (pos 1084431276))
     (sym (at-edges .wide-strip))
+    (record { no-10 = tt; no-11 = tt; by-logs = tt; by-fit = two tt tt })
+
+pub joined-pressure : Covered 3 1242689394 4190468
+unfolding Accepted exponent mul lowPieces middlePieces
+joined-pressure =
+    covered 3 1242689394 4190468
+    (Shows letterP (pair (negℤ (pos 4489000)) (pos 1200000)) (Two (edge (pos 13551294749) (negℤ (pos 1958698))) (edge (pos 13552535327) (pos 997504891))) (Both (pos 18493190) (pos 18499650)) (pos 18497841))
+    (sym (pressure-at .joined))
     (record { no-10 = tt; no-11 = tt; by-logs = tt; by-fit = two tt tt })

@@ -20,25 +20,27 @@ use Rattle.air.proofs.Fit.{YRange}
 lt-le : {p q : ℤ} → p <ℤ q → p ≤ℤ q
 lt-le h = →≤ (omega (arith, <→ h))
 
--- edges that a density in range can have, with Y between them
+-- edges that a density in range can have, below 0, with Y between them
 pub record IsStrip (a b y : ℤ) : Type 0 where
   pub between : Between a b y
   pub low : YRange a
   pub high : YRange b
+  pub below : b ≤ℤ negsuc 0
 
-edges : (p q y : ℤ) → ltZ p y && ltZ y q ≡ true → YRange p → YRange q → p <ℤ q → IsStrip p q y
-edges p q y e hp hq h =
+edges : (p q y : ℤ) → ltZ p y && ltZ y q ≡ true → YRange p → YRange q → p <ℤ q → q ≤ℤ negsuc 0 → IsStrip p q y
+edges p q y e hp hq h l =
     record {
       between = record { apart = h; low = lt-le (ltZ-yes (and-left (ltZ p y) (ltZ y q) (is-true e))); high = lt-le (ltZ-yes (and-right (ltZ p y) (ltZ y q) (is-true e))) };
       low = hp;
       high = hq;
+      below = l;
     }
 
 pub strip-is : (y : ℤ) {a b : ℤ} → stripOf y ≡ strip.Between a b → IsStrip a b y
 strip-is y {a} {b} e = go (inside lowEdge 25000 y) (inside highEdge 5000 y) refl refl e
   where
-    in-plane : {p q : ℤ} → ltZ p y && ltZ y q ≡ true → YRange p → YRange q → p <ℤ q → p ≡ a → q ≡ b → IsStrip a b y
-    in-plane {p} {q} h hp hq l ea eb = subst (λ (v : ℤ). IsStrip v b y) ea (subst (λ (v : ℤ). IsStrip p v y) eb (edges p q y h hp hq l))
+    in-plane : {p q : ℤ} → ltZ p y && ltZ y q ≡ true → YRange p → YRange q → p <ℤ q → q ≤ℤ negsuc 0 → p ≡ a → q ≡ b → IsStrip a b y
+    in-plane {p} {q} h hp hq l m ea eb = subst (λ (v : ℤ). IsStrip v b y) ea (subst (λ (v : ℤ). IsStrip p v y) eb (edges p q y h hp hq l m))
 
     range : {n : ℕ} → n ≤ 6999999 → YRange (negsuc n)
     range {n} h = record { least = leZ-yes (le→leb n 6999999 h); most = leZ-yes tt }
@@ -49,11 +51,11 @@ strip-is y {a} {b} e = go (inside lowEdge 25000 y) (inside highEdge 5000 y) refl
     go true q h k s =
         let ea : negsuc 4524999 ≡ a = cc in
         let eb : negsuc 4474999 ≡ b = cc in
-        in-plane h (range (lit≤ tt)) (range (lit≤ tt)) (ltZ-yes tt) ea eb
+        in-plane h (range (lit≤ tt)) (range (lit≤ tt)) (ltZ-yes tt) (leZ-yes tt) ea eb
     go false true h k s =
         let ea : negsuc 504999 ≡ a = cc in
         let eb : negsuc 494999 ≡ b = cc in
-        in-plane k (range (lit≤ tt)) (range (lit≤ tt)) (ltZ-yes tt) ea eb
+        in-plane k (range (lit≤ tt)) (range (lit≤ tt)) (ltZ-yes tt) (leZ-yes tt) ea eb
     go false false h k s = let f : _≡_ {A = ℕ} 0 1 = cc in absurd (omega arith)
 
 -- what holds wherever a density in range can be holds at every place

@@ -1,11 +1,11 @@
 -- Tests and what they say of whole numbers.
-use mathlib.Core.Bool.{Bool, true, false, not, _&&_, _||_}
+use mathlib.Core.Bool.{Bool, true, false, true≢false, not, _&&_, _||_}
 use mathlib.Core.Path.{_≡_, refl, sym, subst}
 use Prim.Native.Nat.{ℕ, suc, _≤_}
 use native.Mathlib.Omega.{arith}
-use lib.Dec.{T, leb, leb→le, le→leb, lt→ltb, nleb→lt}
+use lib.Dec.{T, leb, leb→le, lt→ltb, nleb→lt}
 use lib.IntN.{ℤ, pos, negsuc, natAbs}
-use lib.Signed.{_≤ℤ_, _<ℤ_, leZ, ltZ, leZ-yes, ltZ-yes}
+use lib.Signed.{_≤ℤ_, _<ℤ_, leZ, ltZ, ltZ-yes}
 use Rattle.integer.specs.Z.{≤→}
 use Rattle.air.specs.Quantities.{within}
 
@@ -28,6 +28,15 @@ not-right false b t = t
 pub not-both : (a b : Bool) → T (not a) → T (not b) → T (not (a || b))
 not-both true b t u = t
 not-both false b t u = u
+
+-- a test of two parts that is false
+pub or-left : (a b : Bool) → (a || b) ≡ false → a ≡ false
+or-left true b e = e
+or-left false b e = refl
+
+pub or-right : (a b : Bool) → (a || b) ≡ false → b ≡ false
+or-right true b e = absurd (true≢false e)
+or-right false b e = e
 
 pub no-true : {b : Bool} → b ≡ true → T (not b) → ⊥
 no-true {b} e t = subst (λ (c : Bool). T (not c)) e t

@@ -2,7 +2,6 @@
 use mathlib.Core.Option.{some}
 use mathlib.Core.Path.{_≡_}
 use Prim.Native.Nat.{ℕ}
-use lib.Dec.{T}
 use lib.IntN.{ℤ, pos, _+ℤ_, _-ℤ_}
 use lib.Signed.{_≤ℤ_, _<ℤ_}
 use Rattle.fraction.specs.Fraction.{Fraction, Within, over, floor}
@@ -15,6 +14,7 @@ use Rattle.air.specs.Held.{Held}
 use Rattle.air.specs.Places.{FitClaim}
 use Rattle.air.specs.Temperature.{letterT, temperatureRule, TemperatureLogs}
 use Rattle.air.specs.Entropy.{letterS, EntropyLogs}
+use Rattle.air.specs.Pressure.{letterP, pressureOf, pressureRule}
 use Rattle.air.specs.Exact.{exactEntropy}
 
 -- how far a fitted temperature's exponent may be from the exact fit, in units of 10^-10
@@ -24,6 +24,10 @@ fitDistance = 10000
 -- how far an entropy may be from the exact one, in units of 0.0001
 abbrev pub entropyDistance : ℕ
 entropyDistance = 3
+
+-- request 3: how far gamma may be from the exact fit, in units of 10^-10
+abbrev pub gammaDistance : ℕ
+gammaDistance = 100000
 
 -- k of demand 3: the whole millionths of an exact fit, rounded down; a millionth is 10,000 units
 abbrev pub exactMillionths : Fraction → ℤ
@@ -61,3 +65,14 @@ pub record EntropyClaim (e d : ℕ) (h : Held) : Type 0 where
   pub shows : h .value ≡ some value
   pub taken : EntropyLogs e d logs
   pub near : Within entropyDistance value (exactEntropy (logs .y) (logs .z))
+
+-- request 3: gamma at each place, and the pressure that it makes
+pub record PressureClaim (n e d : ℕ) (h : Held) : Type 0 where
+  pub logs : Logs
+  pub value : ℤ
+  pub no-refusal : h .number ≡ 0
+  pub letter : h .letter ≡ letterP
+  pub carries : h .logs ≡ some logs
+  pub shows : h .value ≡ some value
+  pub taken : EntropyLogs e d logs
+  pub fitted : FitClaim gammaDistance n (pressureRule e d) (λ f g v. v ≡ pressureOf e d g) (stripOf (logs .y)) logs h

@@ -5,7 +5,7 @@ use lib.IntN.{ℤ, pos, _*ℤ_}
 use lib.Signed.{leZ}
 use Rattle.fraction.specs.Fraction.{Fraction, whole, parts, plus, times, over}
 use Rattle.bicubic.specs.Exact.{exactly, exactBicubic}
-use Rattle.fit.specs.Exact.{exactFit}
+use Rattle.fit.specs.Exact.{inUnits, exactFit}
 use Rattle.bands.specs.Bands.{bandOf, stripOf}
 use Rattle.tgas2_entropy.specs.Entropy.{entropyCoefficients}
 use Rattle.perfect.specs.Perfect.{R}
@@ -15,7 +15,7 @@ use Rattle.air.specs.Join.{exactJoined}
 
 -- the exact fit of a temperature for n terms, in units of 10^-10, of the piece that Y and Z choose
 abbrev pub exactTemperatureFit : ℕ → ℤ → ℤ → Fraction
-exactTemperatureFit n y z = exactFit (pieceAt y z) n y z
+exactTemperatureFit n y z = exactFit (inUnits (pieceAt y z)) n y z
 
 -- the exact entropy at a place, in units of 0.0001
 unfoldable pub exactEntropyAt : ℤ → ℤ → Fraction

@@ -3,11 +3,10 @@ use mathlib.Core.Option.{Option, none, some}
 use Prim.Native.Nat.{ℕ}
 use lib.IntN.{ℤ}
 use Rattle.air.specs.declared.Logs.{Logs}
-use Rattle.fit.specs.declared.Edge.{Edge}
 use Rattle.air.specs.declared.Edges.{Edges}
-use Rattle.air.specs.declared.Edges.the-variants.{Unfitted, One, Two}
+use Rattle.air.specs.declared.Edges.the-variants.{Unfitted}
 use Rattle.air.specs.declared.Ends.{Ends}
-use Rattle.air.specs.declared.Ends.the-variants.{Unjoined, Both}
+use Rattle.air.specs.declared.Ends.the-variants.{Unjoined}
 use Rattle.air.specs.declared.Answer.{Answer}
 use Rattle.air.specs.declared.Answer.the-variants.{Refused, Judged, Shows}
 
@@ -24,7 +23,7 @@ pub record Held : Type 0 where
 abbrev pub refuses : ℕ → Held
 refuses n = record { number = n; letter = 0; logs = none; edges = Unfitted; ends = Unjoined; value = none }
 
--- a refusal that also holds what it was judged by: the logarithms, and for 13 the fit
+-- a refusal that also holds what it was judged by: the logarithms, and where fits refuse them
 abbrev pub judges : ℕ → ℕ → Logs → Edges → Held
 judges n c l e = record { number = n; letter = c; logs = some l; edges = e; ends = Unjoined; value = none }
 

@@ -6,6 +6,7 @@ pub mod Places
 pub mod Ready
 pub mod Temperature
 pub mod Entropy
+pub mod Pressure
 pub mod Exact
 pub mod Accurate
 pub mod State

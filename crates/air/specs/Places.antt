@@ -10,7 +10,7 @@ use Rattle.weight.specs.Weight.{tolerance}
 use Rattle.fit.specs.declared.Edge.{Edge}
 use Rattle.fit.specs.Fit.{Piece, Weighs, fitted}
 use Rattle.fit.specs.Edge.{edgeWith}
-use Rattle.fit.specs.Exact.{exactFit}
+use Rattle.fit.specs.Exact.{Printed, rounded, exactFit}
 use Rattle.proportion.specs.Straight.{straight}
 use Rattle.bands.specs.declared.Strip.{Strip}
 use Rattle.bands.specs.declared.Strip.the-variants.{Clear, Between}
@@ -23,12 +23,12 @@ use Rattle.air.specs.Held.{Held, judges, shows}
 use Rattle.air.specs.Join.{joined, anyPlace}
 use Rattle.air.specs.Choices.{Choices}
 
--- what a property fits: its letter, and the piece that Y and Z choose
+-- what a property fits: its letter, and the piece that Y and Z choose, as it is printed
 -- what refuses at a place by the logarithms, what refuses by a fit, and the number of each
 -- which values a fit that is not refused may have
 pub record Rule : Type 1 where
   pub letter : ℕ
-  pub pieceAt : ℤ → ℤ → Piece
+  pub pieceAt : ℤ → ℤ → Printed
   pub beyondLogs : ℤ → ℤ → Bool
   pub logsNumber : ℕ
   pub beyondFit : ℤ → Bool
@@ -40,10 +40,10 @@ pub record Point : Type 0 where
   pub edge : Edge
   pub value : ℤ
 
--- a point that may stand at a place: its weight by free answer two, its fit by the piece, and a value of that fit
+-- a point that may stand at a place: its weight by free answer two where nothing refuses by the logarithms, its fit by the piece, and a value of that fit
 pub record IsPoint (r : Rule) (y z : ℤ) (q : Point) : Type 0 where
-  pub weighed : Weighs tolerance (r .pieceAt y z) y z (q .edge .weight)
-  pub fit : q .edge .fit ≡ fitted (r .pieceAt y z) y z (q .edge .weight)
+  pub weighed : T (not (r .beyondLogs y z)) → Weighs tolerance (rounded (r .pieceAt y z)) y z (q .edge .weight)
+  pub fit : q .edge .fit ≡ fitted (rounded (r .pieceAt y z)) y z (q .edge .weight)
   pub made : T (not (r .beyondFit (q .edge .fit))) → r .IsValue (q .edge .fit) (q .value)
 
 -- ---- the places of a strip
@@ -87,7 +87,7 @@ abbrev pub pointOf : (ℤ → ℤ) → Edge → Point
 pointOf value e = record { edge = e; value = value (e .fit) }
 
 abbrev pub pointBy : Choices → Rule → (ℤ → ℤ) → ℤ → ℤ → Point
-pointBy c r value z y = pointOf value (edgeBy c (r .pieceAt y z) y z)
+pointBy c r value z y = pointOf value (edgeBy c (rounded (r .pieceAt y z)) y z)
 
 abbrev pub fittedBy : Choices → Rule → (ℤ → ℤ) → Strip → Logs → Held
 fittedBy c r value s l = heldAt r s l (pointBy c r value (l .z))

@@ -10,7 +10,7 @@ use Rattle.bands.specs.declared.Region.{Region}
 use Rattle.bands.specs.declared.Region.the-variants.{Refused, Perfect, Fitted}
 use Rattle.bands.specs.Region.{regionOf, beyondWindow}
 use Rattle.kind.specs.declared.Kind.{Kind}
-use Rattle.kind.specs.declared.Kind.the-variants.{Temperature, Entropy, Unknown}
+use Rattle.kind.specs.declared.Kind.the-variants.{Temperature, Entropy, Pressure, Unknown}
 use Rattle.kind.specs.Kind.{kindOf}
 use Rattle.air.specs.declared.Logs.{Logs}
 use Rattle.fit.specs.declared.Edge.{Edge}
@@ -24,12 +24,13 @@ use Rattle.air.specs.Held.{Held, held, refuses, judges, shows}
 use Rattle.air.specs.Places.{fittedBy}
 use Rattle.air.specs.Temperature.{letterT, IsTemperature, beyondFit, wholeMillionths, temperatureRule}
 use Rattle.air.specs.Entropy.{IsEntropy, beyondEntropy, entropyFrom}
-use Rattle.air.specs.Accurate.{TemperatureClaim, EntropyClaim}
+use Rattle.air.specs.Pressure.{pressureOf, pressureRule, beyondPressure, beyondGamma, IsPressureOf}
+use Rattle.air.specs.Accurate.{TemperatureClaim, EntropyClaim, PressureClaim}
 use Rattle.air.specs.Choices.{Choices}
 
 -- a property that a kind asks for
 pub record Property : Type 1 where
-  -- the ranges of the two values (10, then the second's number), and what refuses by the logarithms (12) and by a fit (13)
+  -- the ranges of the two values (10, then the second's number), and what refuses by the logarithms (12, 17) and by a fit (13, 17)
   pub isFirst : ℕ → Bool
   pub isSecond : ℕ → Bool
   pub secondNumber : ℕ
@@ -86,10 +87,28 @@ entropyProperty =
       Claim = λ n e d h. EntropyClaim e d h;
     }
 
+-- ---- pressure
+unfoldable pub pressureBy : Choices → ℕ → ℕ → Logs → Held
+pressureBy c e d l = fittedBy c (pressureRule e d) (pressureOf e d) (stripOf (l .y)) l
+
+abbrev pub pressureProperty : Property
+pressureProperty =
+    record {
+      isFirst = isEnergy;
+      isSecond = isDensity;
+      secondNumber = 11;
+      byLogs = beyondPressure;
+      byFit = λ e. beyondGamma (e .fit);
+      Is = λ e d h. IsPressureOf e d h;
+      make = λ c e d. pressureBy c e d (entropyLogs c e d);
+      Claim = λ n e d h. PressureClaim n e d h;
+    }
+
 -- ---- the rows
 abbrev pub propertyOf : Kind → Option Property
 propertyOf Temperature = some temperatureProperty
 propertyOf Entropy = some entropyProperty
+propertyOf Pressure = some pressureProperty
 propertyOf Unknown = none
 
 abbrev pub Either : Bool → Type 0 → Type 0 → Type 0
@@ -116,7 +135,7 @@ heldBy c (some k) v w = ranged (k .secondNumber) (k .isFirst v) (k .isSecond w) 
 unfoldable pub answerBy : Choices → ℕ → ℕ → ℕ → Held
 answerBy c kind first second = heldBy c (propertyOf (kindOf kind)) first second
 
--- ---- accepted states: no condition of the state row applies, 12 and 13 judged by what the answer holds
+-- ---- accepted states: no condition of the state row applies, 12, 13 and 17 judged by what the answer holds
 abbrev pub refusesLogs : Property → Option Logs → Bool
 refusesLogs k none = false
 refusesLogs k (some l) = k .byLogs l

@@ -7,6 +7,7 @@ use lib.Signed.{ltZ, shrZ}
 use Rattle.logarithm.specs.Log.{IsLog}
 use Rattle.power.specs.Power.{IsPower}
 use Rattle.fit.specs.Fit.{Piece}
+use Rattle.fit.specs.Exact.{inUnits}
 use Rattle.bands.specs.Bands.{bandOf, stripOf}
 use Rattle.bands.specs.Region.{temperatureIndex, regionOf}
 use Rattle.tgas1_temperature.specs.Pieces.{temperaturePiece}
@@ -47,7 +48,7 @@ abbrev pub temperatureRule : Rule
 temperatureRule =
     record {
       letter = letterT;
-      pieceAt = pieceAt;
+      pieceAt = λ y z. inUnits (pieceAt y z);
       beyondLogs = λ y z. false;
       logsNumber = 12;
       beyondFit = beyondFit;

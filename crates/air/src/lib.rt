@@ -22,12 +22,12 @@ pub enum Ends {
     Both(i64, i64),
 }
 
-// The answer for a state. A letter says what was asked: T or S. The logarithms and the fits stand at one place in both cases that have
+// The answer for a state. A letter says what was asked: T, S or P. The logarithms and the fits stand at one place in both cases that have
 // them, behind the shorter fields, so that an answer is handed on in whole words.
 pub enum Answer {
     // The number alone.
     Refused(u32),
-    // A refusal with what it was judged by: 12, 13.
+    // A refusal with what it was judged by: 12, 13, 17.
     Judged {
         letter: u8,
         number: u32,

@@ -17,7 +17,7 @@ use Rattle.flat.specs.Flat.{flat}
 use Rattle.flat.specs.Back.{heldIn}
 use Rattle.airstate.specs.Allowed.{IsFlatSearch}
 
--- document 01, below the table: no condition of the state row applies, 12 and 13 judged by what the struct carries, refused or not
+-- document 01, below the table: no condition of the state row applies, 12, 13 and 17 judged by what the struct carries, refused or not
 abbrev pub FlatAccepted : Record → CAnswer → Type 0
 FlatAccepted r c = AcceptedAny (propertyOf (kindOf (r .kind))) (r .first) (r .second) (heldIn c)
 

@@ -13,13 +13,13 @@ use Rattle.flat.specs.Flat.{flat}
 use Rattle.flat_parts.specs.Flat.{flatMark}
 use Rattle.flat.specs.Back.{bit}
 
--- a point: across is exactly Y increased by 7,000,000, up is exactly the value
+-- a point: across is exactly Y increased by 7,000,000, up is exactly the value that a mark shows
 pub record Points (c : CMark) (y v : ℤ) : Type 0 where
   pub no-blank : c .blank ≡ 0
   pub across : Exactly (c .point .across) (y +ℤ pos 7000000)
   pub up : Exactly (c .point .up) v
 
--- a is what `eas_search` gives for a sheet and a spelling, c what `eas_plot` gives: where a carries Y and a value, c is their point
+-- a is what `eas_search` gives for a sheet and a spelling, c what `eas_plot` gives: where a carries Y and a value, c is the point of Y and what a mark shows of the value
 abbrev pub PlotExact : Type 0
 PlotExact =
     (s spelling : List ℕ) (a : CAnswer) (c : CMark)

@@ -1,3 +1,4 @@
 pub mod Near
 pub mod Size
 pub mod Ranges
+pub mod Constant

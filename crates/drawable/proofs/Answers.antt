@@ -5,7 +5,7 @@ use mathlib.Core.Path.{_≡_, refl, sym, subst}
 use Prim.Native.Nat.{ℕ, suc, _+_, _-_, _*_, _^_, _≤_, _<_}
 use native.Mathlib.Nat.{le-trans, mul-le-mul-left}
 use native.Mathlib.Omega.{arith}
-use lib.Dec.{T, le→leb, lit≤}
+use lib.Dec.{T, le→leb, lit<, lit≤}
 use lib.IntN.{ℤ, pos, negsuc, natAbs, _-ℤ_, _*ℤ_}
 use lib.Signed.{_≤ℤ_, _<ℤ_, shrZ}
 use lib.Ieee.{binary64, inFloat}
@@ -24,30 +24,35 @@ use Rattle.bands.specs.Region.{regionOf}
 use Rattle.bands.proofs.Regions.{perfect-region}
 use Rattle.perfect.proofs.Quotient.{perfect-small}
 use Rattle.kind.specs.declared.Kind.{Kind}
-use Rattle.kind.specs.declared.Kind.the-variants.{Temperature, Entropy, Unknown}
+use Rattle.kind.specs.declared.Kind.the-variants.{Temperature, Entropy, Pressure, Unknown}
 use Rattle.kind.specs.Kind.{kindOf}
 use Rattle.air.specs.declared.Logs.{Logs}
 use Rattle.air.specs.declared.Edges.the-variants.{Unfitted}
 use Rattle.air.specs.declared.Ends.the-variants.{Unjoined}
-use Rattle.air.specs.Quantities.{isPressure, isDensity, isEnergy}
+use Rattle.air.specs.Quantities.{D0, isPressure, isDensity, isEnergy}
 use Rattle.air.specs.Held.{Held, judges, shows}
 use Rattle.air.specs.Ready.{PlaceReady}
 use Rattle.air.specs.Places.{Rule, Point, edgesAt, valueAt, showsAt, heldAt, pointBy}
 use Rattle.air.specs.Temperature.{beyondFit, temperatureRule}
 use Rattle.air.specs.Entropy.{letterS, entropyAt, aboveLimit, entropyIn}
+use Rattle.air.specs.Pressure.{beyondGamma, pressureOf, pressureRule}
 use Rattle.air.specs.Join.{joined, anyPlace}
 use Rattle.air.specs.Choices.{chosen}
-use Rattle.air.specs.State.{propertyOf, heldBy, answerBy, ranged, kelvinBy, temperatureAt, temperatureBy, temperatureLogs, entropyLogs}
+use Rattle.air.specs.State.{propertyOf, heldBy, answerBy, ranged, kelvinBy, temperatureAt, temperatureBy, pressureBy, temperatureLogs, entropyLogs}
 use Rattle.air.proofs.Fit.{YRange}
-use Rattle.air.proofs.Claims.{y-range}
+use Rattle.air.proofs.Claims.{y-range, place-ready}
 use Rattle.air.proofs.Allowed.{lawful, temperature-logs, entropy-logs}
 use Rattle.air.proofs.Sizes.{entropy-most}
 use Rattle.air.proofs.Strips.{strip-is, strip-ready}
 use Rattle.temperature.specs.Ready.{TemperatureReady}
-use Rattle.temperature_fit.proofs.Passes.{or-left, or-right, kelvin-most}
+use Rattle.air.proofs.Tests.{or-left, or-right}
+use Rattle.temperature_fit.proofs.Passes.{kelvin-most}
 use Rattle.temperature.proofs.Laws.{dividable}
-use Rattle.entropy.proofs.Laws.{place-ready}
-use Rattle.mark.specs.Mark.{Drawable, CanDraw, Marked}
+use Rattle.pressure_fit.proofs.Gammas.{pressure-small}
+use Rattle.pressure.specs.Ready.{PressureReady}
+use Rattle.pressure.proofs.Laws.{values-ready}
+use Rattle.pressure.proofs.Laws as pressure
+use Rattle.mark.specs.Mark.{shownValue, Drawable, CanDraw, Marked}
 use Rattle.mark.proofs.Placed.{marked}
 
 in-float : (z : ℤ) → natAbs z ≤ 2 ^ 53 → T (inFloat binary64 z)
@@ -60,7 +65,7 @@ draws {y} {z} r h = record { least = r .least; most = →≤ (omega (arith, ≤�
 
 -- ---- a fit at its places
 places-shown : (r : Rule) (s : Strip) (l : Logs) (q : ℤ → Point) → YRange (l .y)
-    → (anyPlace s (λ v. r .beyondFit (q v .edge .fit)) (l .y) ≡ false → natAbs (valueAt s q (l .y)) ≤ 2 ^ 53) → CanDraw (heldAt r s l q)
+    → (anyPlace s (λ v. r .beyondFit (q v .edge .fit)) (l .y) ≡ false → natAbs (shownValue (r .letter) (valueAt s q (l .y))) ≤ 2 ^ 53) → CanDraw (heldAt r s l q)
 unfolding heldAt
 places-shown r s l q y-in small = go (anyPlace s (λ v. r .beyondLogs v (l .z)) (l .y)) (anyPlace s (λ v. r .beyondFit (q v .edge .fit)) (l .y)) refl
   where
@@ -84,8 +89,8 @@ apart-some a b y h =
     sub-pos : (p q : ℤ) → p ≤ℤ q → q -ℤ p ≡ pos ((up q + dn p) - (up p + dn q))
     sub-pos p q k = let vp = v p in let vq = v q in ≡-by (search zs) (omega (arith, ≤→ k))
 
-straight-most : (a b low high y : ℤ) → Between a b y → natAbs low ≤ 2 ^ 43 → natAbs high ≤ 2 ^ 43 → natAbs (straight a b low high y) ≤ 2 ^ 53
-straight-most a b low high y h k l =
+straight-most : (m : ℕ) (a b low high y : ℤ) → Between a b y → natAbs low ≤ m → natAbs high ≤ m → natAbs (straight a b low high y) ≤ 3 * m
+straight-most m a b low high y h k l =
     let w = apart-some a b y h in
     let d = high -ℤ low in
     let q : natAbs (shrZ (d *ℤ (y -ℤ a)) (natAbs (b -ℤ a))) ≤ natAbs d =
@@ -109,8 +114,10 @@ temperature-shown p d l h = go (regionOf (l .y) (l .z)) refl
     by-strip (strip.Between a b) e f =
         let g = q a .edge .fit in
         let k = q b .edge .fit in
-        straight-most a b (kelvinBy chosen g) (kelvinBy chosen k) (l .y) (strip-is (l .y) e .between)
-        (kelvin-most g (or-left (beyondFit g) (beyondFit k) f)) (kelvin-most k (or-right (beyondFit g) (beyondFit k) f))
+        le-trans
+        (straight-most (2 ^ 43) a b (kelvinBy chosen g) (kelvinBy chosen k) (l .y) (strip-is (l .y) e .between)
+        (kelvin-most g (or-left (beyondFit g) (beyondFit k) f)) (kelvin-most k (or-right (beyondFit g) (beyondFit k) f)))
+        (lit≤ tt)
 
     go : (x : Region) → regionOf (l .y) (l .z) ≡ x → CanDraw (temperatureAt chosen x p d l)
     go Refused e = tt
@@ -131,8 +138,37 @@ entropy-shown l r h = by-strip (stripOf (l .y)) refl
     by-strip (strip.Between a b) e =
         let j = strip-ready (l .y) (l .z) (h .z-most) e in
         verdict (anyPlace (strip.Between a b) (λ p. aboveLimit p (l .z)) (l .y)) (straight a b (entropyAt a (l .z)) (entropyAt b (l .z)) (l .y))
-        (straight-most a b (entropyAt a (l .z)) (entropyAt b (l .z)) (l .y) (j .between)
+        (le-trans
+        (straight-most (2 ^ 43) a b (entropyAt a (l .z)) (entropyAt b (l .z)) (l .y) (j .between)
         (entropy-most a (l .z) (j .low .y-most) (j .low .z-most)) (entropy-most b (l .z) (j .high .y-most) (j .high .z-most)))
+        (lit≤ tt))
+
+-- ---- pressure: a mark shows whole pascals
+pascals-most : (v : ℤ) → natAbs v ≤ 2 ^ 62 → natAbs (shrZ v 1000000) ≤ 2 ^ 53
+pascals-most v h = quotient-upto v (2 ^ 53) 1000000 (lit< tt) (omega (arith, h))
+
+pressure-shown : (e d : ℕ) (l : Logs) → PressureReady e d l → CanDraw (pressureBy chosen e d l)
+unfolding pressureBy
+pressure-shown e d l h = places-shown (pressureRule e d) (stripOf (l .y)) l q (y-range d (l .y) (h .density) (h .taken .y)) (by-strip (stripOf (l .y)) refl)
+  where
+    -- a pressure for each gamma that 17 lets through
+    q : ℤ → Point
+    q = pointBy chosen (pressureRule e d) (pressureOf e d) (l .z)
+
+    small : (k : ℕ) → d ≤ k → (g : ℤ) → beyondGamma g ≡ false → natAbs (pressureOf e d g) ≤ k * 10 ^ 4
+    small k m g t = pressure-small e d k g (values-ready h .energy) m t
+
+    by-strip : (s : Strip) → stripOf (l .y) ≡ s → anyPlace s (λ v. beyondGamma (q v .edge .fit)) (l .y) ≡ false → natAbs (shrZ (valueAt s q (l .y)) 1000000) ≤ 2 ^ 53
+    by-strip Clear i f = pascals-most (pressureOf e d (q (l .y) .edge .fit)) (le-trans (small 129200000000000 (values-ready h .density) (q (l .y) .edge .fit) f) (lit≤ tt))
+    by-strip (strip.Between a b) i f =
+        let g = q a .edge .fit in
+        let k = q b .edge .fit in
+        let r = pressure.strip-ready h i in
+        pascals-most (straight a b (pressureOf e d g) (pressureOf e d k) (l .y))
+        (le-trans
+        (straight-most (D0 * 10 ^ 4) a b (pressureOf e d g) (pressureOf e d k) (l .y) (r .between)
+        (small D0 (r .density) g (or-left (beyondGamma g) (beyondGamma k) f)) (small D0 (r .density) k (or-right (beyondGamma g) (beyondGamma k) f)))
+        (lit≤ tt))
 
 -- ---- any state
 ranged-shown : (n : ℕ) (a b : Bool) (h : Held) → (T a → T b → CanDraw h) → CanDraw (ranged n a b h)
@@ -148,6 +184,9 @@ held-shown Entropy e d =
     ranged-shown 11 (isEnergy e) (isDensity d) _
     (λ a b. let t = entropy-logs chosen lawful e d a b in
     entropy-shown (entropyLogs chosen e d) (y-range d _ b (t .y)) (place-ready e d _ _ a b (t .y) (t .z)))
+held-shown Pressure e d =
+    ranged-shown 11 (isEnergy e) (isDensity d) _
+    (λ a b. pressure-shown e d (entropyLogs chosen e d) (record { energy = a; density = b; taken = entropy-logs chosen lawful e d a b }))
 held-shown Unknown p d = tt
 
 -- what a state's answer holds can be drawn

@@ -1,25 +1,15 @@
 -- What the steps of an entropy's answer amount to, over the definitions.
 use mathlib.Core.Bool.{Bool, true, false, _||_, cond}
 use mathlib.Core.Path.{_≡_, sym, ap, _∙_}
-use Prim.Native.Nat.{ℕ, _≤_}
-use native.Mathlib.Omega.{arith}
-use lib.Dec.{T, leb, leb→le}
 use lib.IntN.{ℤ}
-use Rattle.integer.specs.Laws.{apart}
-use Rattle.logarithm.specs.Log.{IsLog}
-use Rattle.logarithm.proofs.Range.{log-least, log-most}
 use Rattle.proportion.specs.Straight.{straight}
 use Rattle.bands.specs.declared.Strip.the-variants.{Clear}
 use Rattle.bands.specs.declared.Strip.the-variants as strip
 use Rattle.air.specs.declared.Logs.{Logs}
 use Rattle.air.specs.declared.Edges.the-variants.{Unfitted}
 use Rattle.air.specs.declared.Ends.the-variants.{Unjoined}
-use Rattle.air.specs.Quantities.{D0, E0, isEnergy, isDensity}
 use Rattle.air.specs.Held.{Held, judges, shows}
-use Rattle.air.specs.Ready.{PlaceReady}
 use Rattle.air.specs.Entropy.{letterS, entropyAt, aboveLimit, entropyIn}
-use Rattle.air.proofs.Tests.{and-left, and-right}
-use Rattle.air.proofs.Claims.{y-most}
 
 -- ---- the answer outside a strip and inside one
 module _ (l : Logs) where
@@ -50,13 +40,3 @@ module _ (l : Logs) where
     unfolding entropyIn verdict
     shown-join s e f h =
         ap (shows letterS l Unfitted Unjoined) h ∙ ap (λ (t : Bool). verdict t) (sym f) ∙ ap (λ (t : Bool). verdict (t || aboveLimit b (l .z))) (sym e)
-
--- ---- the logarithms of an energy and a density in range
-pub place-ready : (e d : ℕ) (y z : ℤ) → T (isEnergy e) → T (isDensity d) → IsLog d D0 y → IsLog e E0 z → PlaceReady y z
-place-ready e d y z te td hy hz =
-    let a : 7840840 ≤ e = leb→le 7840840 e (and-left (leb 7840840 e) (leb e 1000000000000) te) in
-    let b : e ≤ 1000000000000 = leb→le e 1000000000000 (and-right (leb 7840840 e) (leb e 1000000000000) te) in
-    record {
-      y-most = y-most d y td hy;
-      z-most = apart z 5000000 (omega (arith, log-most e E0 5 z (omega arith) hz)) (omega (arith, log-least e E0 1 z (omega arith) hz));
-    }

@@ -14,6 +14,7 @@ pub fn evaluate(kind: u8, first: u64, second: u64) -> Answer
     match kind::kind_of(kind) {
         Kind::Temperature => temperature::temperature(first, second),
         Kind::Entropy => entropy::entropy(first, second),
+        Kind::Pressure => pressure::pressure(first, second),
         Kind::Unknown => Answer::Refused(6),
     }
 }

@@ -1,4 +1,9 @@
 pub mod BelowZero
 pub mod Weighted
+pub mod Clamp
+pub mod Nearest
+pub mod Box
+pub mod Corners
 pub mod Distance
 pub mod Pieces
+pub mod Arms

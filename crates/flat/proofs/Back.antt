@@ -1,7 +1,7 @@
 -- A flat answer keeps what is held.
 use mathlib.Core.Bool.{Bool, true, false, cond}
 use mathlib.Core.Option.{Option, none, some}
-use mathlib.Core.Path.{_≡_, refl, sym, ap, _∙_, subst}
+use mathlib.Core.Path.{_≡_, refl, sym, _∙_, subst}
 use Prim.Native.Nat.{ℕ}
 use lib.IntN.{ℤ}
 use Rattle.bands.specs.declared.Strip.{Strip}
@@ -10,7 +10,7 @@ use Rattle.bands.specs.declared.Region.{Region}
 use Rattle.bands.specs.declared.Region.the-variants as region
 use Rattle.bands.specs.Region.{regionOf}
 use Rattle.kind.specs.declared.Kind.{Kind}
-use Rattle.kind.specs.declared.Kind.the-variants.{Temperature, Entropy, Unknown}
+use Rattle.kind.specs.declared.Kind.the-variants.{Temperature, Entropy, Pressure, Unknown}
 use Rattle.kind.specs.Kind.{kindOf}
 use Rattle.air.specs.declared.Logs.{Logs}
 use Rattle.air.specs.declared.Edges.{Edges}
@@ -18,10 +18,10 @@ use Rattle.air.specs.declared.Edges.the-variants.{Unfitted, One, Two}
 use Rattle.air.specs.declared.Ends.{Ends}
 use Rattle.air.specs.declared.Ends.the-variants.{Unjoined, Both}
 use Rattle.air.specs.Quantities.{isPressure, isDensity, isEnergy}
-use Rattle.air.specs.Held.{Held, held, refuses, judges}
+use Rattle.air.specs.Held.{Held, held, refuses}
 use Rattle.air.specs.Join.{anyPlace}
-use Rattle.air.specs.Places.{Rule, Point, edgesAt, showsAt, heldAt}
-use Rattle.air.specs.Temperature.{IsTemperature, IsTemperatureIn}
+use Rattle.air.specs.Places.{Rule, Point, showsAt, heldAt}
+use Rattle.air.specs.Temperature.{IsTemperatureIn}
 use Rattle.air.specs.Entropy.{entropyIn, entropyFrom, beyondEntropy}
 use Rattle.air.specs.State.{propertyOf, Either, IsHeld, IsAnswer}
 use Rattle.flat.specs.Flat.{lowValue, highValue, flat}
@@ -113,6 +113,7 @@ in-range n false b h R f x = by x refl
 allowed : (k : Kind) (v w : ℕ) (h : Held) → IsHeld (propertyOf k) v w h → Settled h
 allowed Temperature v w h x = in-range 11 (isPressure v) (isDensity w) h _ (λ t. temperature (regionOf (t .logs .y) (t .logs .z)) v w (t .logs) h (t .is)) x
 allowed Entropy v w h x = in-range 11 (isEnergy v) (isDensity w) h _ (λ t. by (t .is) (entropy (t .logs))) x
+allowed Pressure v w h x = in-range 11 (isEnergy v) (isDensity w) h _ (λ t. by (t .is .is) (fit _ _ (t .logs) (t .is .point))) x
 allowed Unknown v w h x = by x refl
 
 pub flat-keeps-all : FlatKeepsAll

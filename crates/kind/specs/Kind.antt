@@ -3,17 +3,18 @@ use mathlib.Core.Bool.{Bool, true, false}
 use Prim.Native.Nat.{ℕ}
 use lib.Dec.{eqb}
 use Rattle.kind.specs.declared.Kind.{Kind}
-use Rattle.kind.specs.declared.Kind.the-variants.{Temperature, Entropy, Unknown}
+use Rattle.kind.specs.declared.Kind.the-variants.{Temperature, Entropy, Pressure, Unknown}
 
 abbrev pub pickKind : Bool → Kind → Kind → Kind
 pickKind true a b = a
 pickKind false a b = b
 
--- document 01, state sheet: 1 is pressure and density, 2 is energy and density
+-- document 01, state sheet: 1 is pressure and density, 2 is energy and density; document 02, request 3: 3 is energy and density, pressure wanted
 abbrev pub kindOf : ℕ → Kind
-kindOf b = pickKind (eqb b 1) Temperature (pickKind (eqb b 2) Entropy Unknown)
+kindOf b = pickKind (eqb b 1) Temperature (pickKind (eqb b 2) Entropy (pickKind (eqb b 3) Pressure Unknown))
 
 abbrev pub isKnown : Kind → Bool
 isKnown Temperature = true
 isKnown Entropy = true
+isKnown Pressure = true
 isKnown Unknown = false

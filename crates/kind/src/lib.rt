@@ -5,6 +5,7 @@ ghost use Rattle.kind.specs.Kind.{kindOf, isKnown};
 pub enum Kind {
     Temperature,
     Entropy,
+    Pressure,
     Unknown,
 }
 
@@ -18,6 +19,9 @@ pub fn kind_of(byte: u8) -> Kind
     if byte == 2 {
         return Kind::Entropy;
     }
+    if byte == 3 {
+        return Kind::Pressure;
+    }
     Kind::Unknown
 }
 
@@ -28,6 +32,7 @@ pub fn is_known(byte: u8) -> bool
     match kind_of(byte) {
         Kind::Temperature => true,
         Kind::Entropy => true,
+        Kind::Pressure => true,
         Kind::Unknown => false,
     }
 }

@@ -28,7 +28,7 @@ valueRest letter y z value = 32 ∷ (letter ∷ (32 ∷ (whole y ++ (32 ∷ (who
 unfoldable pub refusalRest : ℕ → List ℕ
 refusalRest n = 32 ∷ (33 ∷ (32 ∷ (natural n ++ (10 ∷ []))))
 
--- refusals 12 and 13 hold logarithms and no value
+-- refusals 12, 13 and 17 hold logarithms and no value
 abbrev pub restBy : ℕ → ℕ → Option Logs → Option ℤ → List ℕ
 restBy number letter (some l) (some v) = valueRest letter (l .y) (l .z) v
 restBy number letter (some l) none = refusalRest number

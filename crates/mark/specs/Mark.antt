@@ -1,15 +1,16 @@
 -- Document 01, Plot marks.
-use mathlib.Core.Bool.{false, true}
+use mathlib.Core.Bool.{false, true, cond}
 use mathlib.Core.Option.{Option, none, some}
 use mathlib.Core.Path.{_≡_}
 use Prim.Native.Nat.{ℕ, suc}
-use lib.Dec.{T}
+use lib.Dec.{T, eqb}
 use lib.IntN.{ℤ, pos, negsuc, negℤ, _+ℤ_}
-use lib.Signed.{_≤ℤ_}
+use lib.Signed.{_≤ℤ_, shrZ}
 use lib.Ieee.{Float, binary64, inFloat, ofInt, add}
 use lib.Ieee.Exact.{HasValue}
 use Rattle.air.specs.declared.Logs.{Logs}
 use Rattle.air.specs.Held.{Held}
+use Rattle.air.specs.Pressure.{letterP}
 use Rattle.mark.specs.declared.Point.{Point}
 use Rattle.mark.specs.declared.Mark.{Mark}
 use Rattle.mark.specs.declared.Mark.the-variants.{At, Blank}
@@ -18,9 +19,9 @@ use Rattle.mark.specs.declared.Mark.the-variants.{At, Blank}
 abbrev pub pointOf : ℤ → ℤ → Point
 pointOf y v = record { across = add binary64 (ofInt binary64 y) (ofInt binary64 (pos 7000000)); up = ofInt binary64 v }
 
--- what a mark shows of a value, by the answer's letter: the value itself
+-- what a mark shows of a value, by the answer's letter: the value itself; request 3: of a pressure its whole pascals, rounded down
 abbrev pub shownValue : ℕ → ℤ → ℤ
-shownValue letter v = v
+shownValue letter v = cond (eqb letter letterP) (shrZ v 1000000) v
 
 -- a point where there is a value, else a blank with the refusal's number
 abbrev pub markFrom : ℕ → ℕ → Option Logs → Option ℤ → Mark

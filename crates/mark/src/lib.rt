@@ -1,8 +1,9 @@
 // Plot marks: a state's answer as a point of two doubles, or a blank.
 use air::Answer;
 ghost use mathlib.Core.Path.{_≡_};
+ghost use lib.Signed.{shrZ};
 ghost use Rattle.air.specs.Held.{held};
-ghost use Rattle.mark.specs.Mark.{pointOf, markOf, Drawable, CanDraw};
+ghost use Rattle.mark.specs.Mark.{pointOf, shownValue, markOf, Drawable, CanDraw};
 
 // Two doubles.
 #[repr(C)]
@@ -28,6 +29,26 @@ fn point_of(y: i64, v: i64) -> Point
     }
 }
 
+// a / 10^6, rounded down.
+fn millionth(a: i64) -> i64
+    ensures { λ r. ⌜ r ≡ shrZ a 1000000 ⌝ }
+{
+    if a < 0 {
+        return -1 - (-1 - a) / 1000000;
+    }
+    a / 1000000
+}
+
+// What a mark shows of a value: of a pressure its whole pascals.
+fn shown_value(letter: u8, v: i64) -> i64
+    ensures { λ r. ⌜ r ≡ shownValue letter v ⌝ }
+{
+    if letter == b'P' {
+        return millionth(v);
+    }
+    v
+}
+
 // The mark of an answer.
 pub fn mark_of(a: Answer) -> Mark
     requires { ⌜ CanDraw (held a) ⌝ }
@@ -42,11 +63,11 @@ pub fn mark_of(a: Answer) -> Mark
             edges: _,
         } => Mark::Blank(number),
         Answer::Shows {
-            letter: _,
+            letter,
             logs,
             edges: _,
             ends: _,
             value,
-        } => Mark::At(point_of(logs.y, value)),
+        } => Mark::At(point_of(logs.y, shown_value(letter, value))),
     }
 }

@@ -7,7 +7,7 @@ ghost use Rattle.packed.specs.Packed.{unpacked, Block};
 ghost use Rattle.bicubic.specs.Bicubic.{bicubic, exponent};
 
 // The bicubic of a block of ten.
-pub fn bicubic_of(bytes: &[u8; 10], words: &[i32; 17], y: i64, z: i64) -> i64
+pub fn bicubic_of(bytes: &[u8; 10], words: &[i32; 19], y: i64, z: i64) -> i64
     requires { ⌜ (Block 10 (now bytes) (now words)) × ((AllIn 43 (unpacked (now bytes) (now words))) × ((In 25 y) × (In 25 z))) ⌝ }
     ensures { λ r. ⌜ r ≡ bicubic (unpacked (now (bytes .entry)) (now (words .entry))) y z ⌝ }
 {

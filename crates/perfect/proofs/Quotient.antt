@@ -1,18 +1,13 @@
--- A long quotient in two digits, and the perfect gas as one.
-use mathlib.Core.Path.{_≡_, refl, sym, ap, _∙_}
+-- The perfect gas as a long quotient in two digits.
+use mathlib.Core.Path.{_≡_, sym, ap, _∙_}
 use Prim.Native.Nat.{ℕ, _+_, _*_, _/_, _%_, _^_, _≤_, _<_}
-use native.Mathlib.Nat.{mod-lt, div-add-mod', div-le-self, mul-add-div-right, div-mul-le-self, div-div-eq-div-mul, mul-div-mul-left, div-le-of-le-mul}
+use native.Mathlib.Nat.{mod-lt, div-add-mod', div-le-self, div-mul-le-self, div-div-eq-div-mul, mul-div-mul-left, div-le-of-le-mul}
 use native.Mathlib.Omega.{arith}
 use lib.Dec.{lit<}
 use mir.Syntax.{w64}
 use mir.Val.{Fits}
+use Rattle.digits.proofs.Long.{long}
 use Rattle.perfect.specs.Perfect.{R, perfectGas, Dividable}
-
--- t and a digit of k behind it, divided by d: the quotient of t, then that of the remainder and the digit
-pub long : (t k lo d : ℕ) → 0 < d → (t * k + lo) / d ≡ t / d * k + (t % d * k + lo) / d
-long t k lo d h =
-    let e : (t / d * d + t % d) * k ≡ t * k = ap (λ (n : ℕ). n * k) (div-add-mod' t d) in
-    ap (λ (n : ℕ). n / d) (omega (arith, e)) ∙ mul-add-div-right h (t / d * k) (t % d * k + lo)
 
 -- a sum with a quotient fits where it fits with the dividend
 pub sum-fits : (q u d : ℕ) → q + u < 2 ^ 64 → Fits w64 (q + u / d)

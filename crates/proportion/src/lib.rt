@@ -1,16 +1,17 @@
 // Products over a constant or a width in 64 bits, each rounded down: the part of B in a fit, the straight line of a join, an entropy's scale.
 use quotient::mul_div;
 ghost use mathlib.Core.Path.{_≡_};
-ghost use Prim.Native.Nat.{_*_, _^_};
-ghost use lib.IntN.{pos, _+ℤ_, _*ℤ_};
-ghost use lib.Signed.{shrZ, _≤ℤ_};
+ghost use Prim.Native.Nat.{_*_, _^_, _≤_};
+ghost use lib.IntN.{pos, natAbs, _+ℤ_, _*ℤ_};
+ghost use lib.Signed.{shrZ};
 ghost use Rattle.weight.specs.Weight.{units};
 ghost use Rattle.quotient.specs.Range.{In, Between};
+ghost use Rattle.proportion.specs.Reach.{reach};
 ghost use Rattle.proportion.specs.Straight.{straight};
 
 // W * B / 10^10 of any B: it is split by 10^10 and what is left of it is divided twice by 10^5.
 fn scaled_wide(w: i64, b: i64) -> i64
-    requires { ⌜ (pos 0 ≤ℤ w) × ((w ≤ℤ pos units) × (In 57 b)) ⌝ }
+    requires { ⌜ (natAbs w ≤ reach) × (In 57 b) ⌝ }
     ensures { λ r. ⌜ r ≡ shrZ (w *ℤ b) units ⌝ }
 {
     let h = quotient::floor_div(b, 10000000000);
@@ -20,7 +21,7 @@ fn scaled_wide(w: i64, b: i64) -> i64
 
 // W * B / 10^10. A B below 2^38, as nearly all are, takes one quotient: by 1,024 with shifts, then by 9,765,625.
 pub fn scaled(w: i64, b: i64) -> i64
-    requires { ⌜ (pos 0 ≤ℤ w) × ((w ≤ℤ pos units) × (In 57 b)) ⌝ }
+    requires { ⌜ (natAbs w ≤ reach) × (In 57 b) ⌝ }
     ensures { λ r. ⌜ r ≡ shrZ (w *ℤ b) units ⌝ }
 {
     if b < -274877906943 || 274877906943 < b {
@@ -31,7 +32,7 @@ pub fn scaled(w: i64, b: i64) -> i64
 
 // G where there is a second bicubic, of the two bicubics' values and the weight.
 pub fn fitted(a: i64, w: i64, b: i64) -> i64
-    requires { ⌜ (In 57 a) × ((pos 0 ≤ℤ w) × ((w ≤ℤ pos units) × (In 57 b))) ⌝ }
+    requires { ⌜ (In 57 a) × ((natAbs w ≤ reach) × (In 57 b)) ⌝ }
     ensures { λ r. ⌜ r ≡ a +ℤ shrZ (w *ℤ b) units ⌝ }
 {
     a + scaled(w, b)

@@ -2,7 +2,7 @@
 -- Assumes nothing.
 use mathlib.Core.Bool.{Bool, true, false, cond}
 use mathlib.Core.List.{List, [], _∷_, _++_}
-use mathlib.Core.Path.{_≡_, refl, sym, ap, subst}
+use mathlib.Core.Path.{_≡_, refl, subst}
 use Prim.Native.Nat.{ℕ}
 use lib.IntN.{ℤ}
 use Rattle.air.specs.declared.Answer.{Answer}
@@ -18,9 +18,10 @@ use Rattle.air.specs.Join.{anyPlace}
 use Rattle.air.specs.Places.{Rule, Point, heldAt, pointBy}
 use Rattle.air.specs.Temperature.{temperatureRule}
 use Rattle.air.specs.Entropy.{entropyIn, entropyFrom, beyondEntropy}
-use Rattle.air.specs.State.{temperatureLogs, entropyLogs, kelvinBy, temperatureAt, temperatureBy, propertyOf, ranged, heldBy, answerBy}
+use Rattle.air.specs.Pressure.{pressureOf, pressureRule}
+use Rattle.air.specs.State.{temperatureLogs, entropyLogs, kelvinBy, temperatureAt, temperatureBy, pressureBy, propertyOf, ranged, heldBy, answerBy}
 use Rattle.kind.specs.declared.Kind.{Kind}
-use Rattle.kind.specs.declared.Kind.the-variants.{Temperature, Entropy, Unknown}
+use Rattle.kind.specs.declared.Kind.the-variants.{Temperature, Entropy, Pressure, Unknown}
 use Rattle.kind.specs.Kind.{kindOf}
 use Rattle.sheet_search.specs.declared.Lookup.{Lookup}
 use Rattle.sheet_search.specs.declared.Lookup.the-variants.{Hit, Miss}
@@ -74,9 +75,12 @@ module _ (c : Choices) where
   temperature (r.Fitted b i) p d l = fit temperatureRule (stripOf (l .y)) l (pointBy c temperatureRule (kelvinBy c) (l .z))
 
   by-kind : (k : Kind) (v w : ℕ) → Holder (heldBy c (propertyOf k) v w)
-  unfolding temperatureBy
+  unfolding temperatureBy pressureBy
   by-kind Temperature v w = let l = temperatureLogs c v w in in-range 11 (isPressure v) (isDensity w) (temperature (regionOf (l .y) (l .z)) v w l)
   by-kind Entropy v w = in-range 11 (isEnergy v) (isDensity w) {h = entropyFrom (entropyLogs c v w)} (entropy (entropyLogs c v w))
+  by-kind Pressure v w =
+      let l = entropyLogs c v w in
+      in-range 11 (isEnergy v) (isDensity w) (fit (pressureRule v w) (stripOf (l .y)) l (pointBy c (pressureRule v w) (pressureOf v w) (l .z)))
   by-kind Unknown v w = refusal 6
 
   -- an answer to a state

@@ -15,7 +15,7 @@ use Rattle.perfect.specs.Perfect.{Dividable}
 use Rattle.air.specs.declared.Logs.{Logs}
 use Rattle.air.specs.Quantities.{P0, D0}
 use Rattle.air.proofs.Tests.{and-left, and-right, abs-of}
-use Rattle.temperature_fit.proofs.Passes.{or-left, or-right}
+use Rattle.air.proofs.Tests.{or-left, or-right}
 use Rattle.temperature.specs.Ready.{TemperatureReady}
 
 pub window-most : (z : ℤ) → beyondWindow z ≡ false → natAbs z ≤ 3000000

@@ -1,5 +1,5 @@
 -- A fit that 13 lets through, and how large its temperature is.
-use mathlib.Core.Bool.{Bool, true, false, true≢false, _||_}
+use mathlib.Core.Bool.{false, true≢false}
 use mathlib.Core.Path.{_≡_, refl, sym, subst}
 use Prim.Native.Nat.{ℕ, _/_, _^_, _≤_}
 use native.Mathlib.Nat.{le-of-lt, lt-of-le-of-lt, div-le-of-le-mul}
@@ -15,15 +15,7 @@ use Rattle.quotient.specs.Range.{In}
 use Rattle.air.specs.Choices.{chosen}
 use Rattle.air.specs.Temperature.{beyondFit}
 use Rattle.air.specs.State.{kelvinBy}
-
--- a test of two parts that is false
-pub or-left : (a b : Bool) → (a || b) ≡ false → a ≡ false
-or-left true b e = e
-or-left false b e = refl
-
-pub or-right : (a b : Bool) → (a || b) ≡ false → b ≡ false
-or-right true b e = absurd (true≢false e)
-or-right false b e = e
+use Rattle.air.proofs.Tests.{or-right}
 
 pub record Passes (g : ℤ) : Type 0 where
   pub plain : T (nonNeg g)

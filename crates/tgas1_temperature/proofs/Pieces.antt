@@ -9,7 +9,7 @@ use lib.IntN.{ℤ}
 use mir.Syntax.{w64}
 use mir.Val.{SFits, toZ, ofZ}
 use Rattle.integer.proofs.Machine.{back}
-use Rattle.weight.specs.Choice.{weightOf}
+use Rattle.weight.specs.Choice.{weightBy}
 use Rattle.fit.specs.declared.Edge.{Edge}
 use Rattle.fit.specs.Fit.{Piece}
 use Rattle.fit.specs.Edge.{edgeWith, Small, Workable}
@@ -27,8 +27,8 @@ module _ {b b′ : Band} {i j : ℕ} {y z : ℤ} (e : b ≡ b′) (d : i ≡ j) 
   pub arm-takes : Workable (temperaturePiece b i) y z → Workable (temperaturePiece b′ j) (toZ w64 (ofZ w64 y)) (toZ w64 (ofZ w64 z))
   arm-takes h = rw (back fy, back fz) (subst (λ (k : Piece). Workable k y z) piece-is h)
 
-  pub arm-gives : {r : Edge} → r ≡ edgeWith weightOf (temperaturePiece b′ j) (toZ w64 (ofZ w64 y)) (toZ w64 (ofZ w64 z)) → r ≡ edgeWith weightOf (temperaturePiece b i) y z
-  arm-gives h = (rw (back fy, back fz) at h) ∙ ap (λ (k : Piece). edgeWith weightOf k y z) (sym piece-is)
+  pub arm-gives : {r : Edge} → r ≡ edgeWith weightBy (temperaturePiece b′ j) (toZ w64 (ofZ w64 y)) (toZ w64 (ofZ w64 z)) → r ≡ edgeWith weightBy (temperaturePiece b i) y z
+  arm-gives h = (rw (back fy, back fz) at h) ∙ ap (λ (k : Piece). edgeWith weightBy k y z) (sym piece-is)
 
 pub more : {i : ℕ} (k : ℕ) → k ≤ i → (i ≡ k → ⊥) → k + 1 ≤ i
 more {i} k h n = go (ltb k i) refl

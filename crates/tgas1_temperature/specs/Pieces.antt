@@ -4,7 +4,7 @@ use mathlib.Core.List.{List, [], _∷_}
 use Prim.Native.Nat.{ℕ}
 use lib.IntN.{ℤ}
 use lib.ListN.{getD}
-use Rattle.fit.specs.Fit.{Piece, alone, joint}
+use Rattle.fit.specs.Fit.{Piece, alone, joint, plusBy}
 use Rattle.bands.specs.Units.{p, m}
 use Rattle.bands.specs.declared.Band.{Band}
 use Rattle.bands.specs.declared.Band.the-variants.{Low, Middle, High}
@@ -232,20 +232,20 @@ high3-q =
 unfoldable pub temperaturePieces : Band → List Piece
 temperaturePieces Low =
     alone low1-A
-    ∷ joint low2-A low2-B (record { terms = low2-q })
-    ∷ joint low3-A low3-B (record { terms = low3-q })
-    ∷ joint low4-A low4-B (record { terms = low4-q })
+    ∷ joint low2-A low2-B (plusBy low2-q)
+    ∷ joint low3-A low3-B (plusBy low3-q)
+    ∷ joint low4-A low4-B (plusBy low4-q)
     ∷ []
 temperaturePieces Middle =
     alone middle1-A
-    ∷ joint middle2-A middle2-B (record { terms = middle2-q })
-    ∷ joint middle3-A middle3-B (record { terms = middle3-q })
-    ∷ joint middle4-A middle4-B (record { terms = middle4-q })
+    ∷ joint middle2-A middle2-B (plusBy middle2-q)
+    ∷ joint middle3-A middle3-B (plusBy middle3-q)
+    ∷ joint middle4-A middle4-B (plusBy middle4-q)
     ∷ []
 temperaturePieces High =
     alone high1-A
-    ∷ joint high2-A high2-B (record { terms = high2-q })
-    ∷ joint high3-A high3-B (record { terms = high3-q })
+    ∷ joint high2-A high2-B (plusBy high2-q)
+    ∷ joint high3-A high3-B (plusBy high3-q)
     ∷ []
 
 -- the coefficients of a band's i-th piece

@@ -3,7 +3,7 @@
 // Label 310, GAS1 to GAS4.
 pub const LOW1_A_BYTES: [u8; 10] = [0, 2, 4, 6, 8, 10, 12, 15, 18, 21];
 
-pub const LOW1_A: [i32; 17] = [
+pub const LOW1_A: [i32; 19] = [
     1448240000,
     136744000,
     1170990000,
@@ -21,12 +21,14 @@ pub const LOW1_A: [i32; 17] = [
     0,
     0,
     0,
+    0,
+    0,
 ];
 
 // Label 320, GAS1 to GAS4.
 pub const LOW2_A_BYTES: [u8; 10] = [1, 5, 9, 13, 16, 18, 20, 23, 27, 31];
 
-pub const LOW2_A: [i32; 17] = [
+pub const LOW2_A: [i32; 19] = [
     1239280512,
     -22,
     -730235408,
@@ -44,12 +46,14 @@ pub const LOW2_A: [i32; 17] = [
     -2,
     -1728309440,
     15,
+    0,
+    0,
 ];
 
 // Label 320, GAS5 to GAS8.
 pub const LOW2_B_BYTES: [u8; 10] = [1, 4, 6, 9, 12, 14, 16, 19, 23, 27];
 
-pub const LOW2_B: [i32; 17] = [
+pub const LOW2_B: [i32; 19] = [
     506338368,
     -8,
     1825940000,
@@ -65,6 +69,8 @@ pub const LOW2_B: [i32; 17] = [
     1,
     1914971072,
     -7,
+    0,
+    0,
     0,
     0,
 ];
@@ -86,7 +92,7 @@ pub const LOW2_Q: [i32; 8] = [
 // Label 330, GAS1 to GAS4.
 pub const LOW3_A_BYTES: [u8; 10] = [1, 5, 9, 13, 16, 18, 20, 23, 27, 31];
 
-pub const LOW3_A: [i32; 17] = [
+pub const LOW3_A: [i32; 19] = [
     191528320,
     -45,
     1724169184,
@@ -104,12 +110,14 @@ pub const LOW3_A: [i32; 17] = [
     -1,
     1387027040,
     10,
+    0,
+    0,
 ];
 
 // Label 330, GAS5 to GAS8.
 pub const LOW3_B_BYTES: [u8; 10] = [1, 4, 7, 11, 14, 16, 18, 21, 25, 29];
 
-pub const LOW3_B: [i32; 17] = [
+pub const LOW3_B: [i32; 19] = [
     347805664,
     -9,
     1328640000,
@@ -126,6 +134,8 @@ pub const LOW3_B: [i32; 17] = [
     1,
     -313063520,
     -5,
+    0,
+    0,
     0,
 ];
 
@@ -146,7 +156,7 @@ pub const LOW3_Q: [i32; 8] = [
 // Label 340, GAS1 to GAS4.
 pub const LOW4_A_BYTES: [u8; 10] = [1, 5, 9, 13, 16, 18, 20, 23, 27, 31];
 
-pub const LOW4_A: [i32; 17] = [
+pub const LOW4_A: [i32; 19] = [
     -2022962240,
     -60,
     -562030816,
@@ -164,12 +174,14 @@ pub const LOW4_A: [i32; 17] = [
     -1,
     -1711403776,
     6,
+    0,
+    0,
 ];
 
 // Label 340, GAS5 to GAS8.
 pub const LOW4_B_BYTES: [u8; 10] = [1, 4, 7, 11, 14, 16, 18, 21, 24, 27];
 
-pub const LOW4_B: [i32; 17] = [
+pub const LOW4_B: [i32; 19] = [
     -1044373568,
     -42,
     1548960000,
@@ -185,6 +197,8 @@ pub const LOW4_B: [i32; 17] = [
     1112410000,
     1185137296,
     -1,
+    0,
+    0,
     0,
     0,
 ];
@@ -206,7 +220,7 @@ pub const LOW4_Q: [i32; 8] = [
 // Label 360, GAS1 to GAS4.
 pub const MIDDLE1_A_BYTES: [u8; 10] = [0, 2, 5, 8, 10, 12, 14, 17, 20, 22];
 
-pub const MIDDLE1_A: [i32; 17] = [
+pub const MIDDLE1_A: [i32; 19] = [
     294996000,
     72499700,
     -772104592,
@@ -224,12 +238,14 @@ pub const MIDDLE1_A: [i32; 17] = [
     0,
     0,
     0,
+    0,
+    0,
 ];
 
 // Label 370, GAS1 to GAS4.
 pub const MIDDLE2_A_BYTES: [u8; 10] = [1, 5, 9, 13, 16, 18, 20, 23, 27, 31];
 
-pub const MIDDLE2_A: [i32; 17] = [
+pub const MIDDLE2_A: [i32; 19] = [
     502174848,
     -13,
     757477296,
@@ -247,12 +263,14 @@ pub const MIDDLE2_A: [i32; 17] = [
     -1,
     -60572960,
     10,
+    0,
+    0,
 ];
 
 // Label 370, GAS5 to GAS8.
 pub const MIDDLE2_B_BYTES: [u8; 10] = [1, 5, 9, 13, 16, 18, 20, 23, 27, 31];
 
-pub const MIDDLE2_B: [i32; 17] = [
+pub const MIDDLE2_B: [i32; 19] = [
     603586784,
     21,
     1540865408,
@@ -270,6 +288,8 @@ pub const MIDDLE2_B: [i32; 17] = [
     1,
     -471125152,
     -13,
+    0,
+    0,
 ];
 
 // Label 370, GAS9.
@@ -289,7 +309,7 @@ pub const MIDDLE2_Q: [i32; 8] = [
 // Label 380, GAS1 to GAS4.
 pub const MIDDLE3_A_BYTES: [u8; 10] = [1, 5, 9, 13, 16, 18, 20, 23, 27, 31];
 
-pub const MIDDLE3_A: [i32; 17] = [
+pub const MIDDLE3_A: [i32; 19] = [
     -1928850304,
     -26,
     -1614965408,
@@ -307,12 +327,14 @@ pub const MIDDLE3_A: [i32; 17] = [
     -1,
     684596224,
     6,
+    0,
+    0,
 ];
 
 // Label 380, GAS5 to GAS8.
 pub const MIDDLE3_B_BYTES: [u8; 10] = [1, 5, 9, 13, 16, 18, 20, 23, 27, 31];
 
-pub const MIDDLE3_B: [i32; 17] = [
+pub const MIDDLE3_B: [i32; 19] = [
     1385854080,
     20,
     -128501888,
@@ -330,6 +352,8 @@ pub const MIDDLE3_B: [i32; 17] = [
     1,
     1211403776,
     -6,
+    0,
+    0,
 ];
 
 // Label 380, GAS9.
@@ -349,7 +373,7 @@ pub const MIDDLE3_Q: [i32; 8] = [
 // Label 390, GAS1 to GAS4.
 pub const MIDDLE4_A_BYTES: [u8; 10] = [1, 5, 9, 13, 16, 18, 20, 23, 27, 31];
 
-pub const MIDDLE4_A: [i32; 17] = [
+pub const MIDDLE4_A: [i32; 19] = [
     14659136,
     -41,
     227001888,
@@ -367,12 +391,14 @@ pub const MIDDLE4_A: [i32; 17] = [
     -1,
     -1115769184,
     4,
+    0,
+    0,
 ];
 
 // Label 390, GAS5 to GAS8.
 pub const MIDDLE4_B_BYTES: [u8; 10] = [1, 5, 9, 13, 16, 18, 20, 23, 27, 31];
 
-pub const MIDDLE4_B: [i32; 17] = [
+pub const MIDDLE4_B: [i32; 19] = [
     -1324005056,
     61,
     1704263520,
@@ -390,6 +416,8 @@ pub const MIDDLE4_B: [i32; 17] = [
     1,
     -1471830816,
     -4,
+    0,
+    0,
 ];
 
 // Label 390, GAS9.
@@ -409,7 +437,7 @@ pub const MIDDLE4_Q: [i32; 8] = [
 // Label 410, GAS1 to GAS4.
 pub const HIGH1_A_BYTES: [u8; 10] = [0, 2, 5, 8, 10, 12, 14, 16, 18, 20];
 
-pub const HIGH1_A: [i32; 17] = [
+pub const HIGH1_A: [i32; 19] = [
     -29408100,
     5739150,
     1298895408,
@@ -427,12 +455,14 @@ pub const HIGH1_A: [i32; 17] = [
     0,
     0,
     0,
+    0,
+    0,
 ];
 
 // Label 420, GAS1 to GAS4.
 pub const HIGH2_A_BYTES: [u8; 10] = [1, 4, 7, 10, 12, 14, 16, 19, 22, 25];
 
-pub const HIGH2_A: [i32; 17] = [
+pub const HIGH2_A: [i32; 19] = [
     354698112,
     3,
     852771000,
@@ -450,12 +480,14 @@ pub const HIGH2_A: [i32; 17] = [
     0,
     0,
     0,
+    0,
+    0,
 ];
 
 // Label 420, GAS5 to GAS8.
 pub const HIGH2_B_BYTES: [u8; 10] = [1, 4, 7, 11, 14, 16, 18, 21, 24, 27];
 
-pub const HIGH2_B: [i32; 17] = [
+pub const HIGH2_B: [i32; 19] = [
     -971762704,
     -1,
     -1586910000,
@@ -471,6 +503,8 @@ pub const HIGH2_B: [i32; 17] = [
     -1522120000,
     190798112,
     3,
+    0,
+    0,
     0,
     0,
 ];
@@ -492,7 +526,7 @@ pub const HIGH2_Q: [i32; 8] = [
 // Label 430, GAS1 to GAS4.
 pub const HIGH3_A_BYTES: [u8; 10] = [1, 4, 7, 10, 12, 14, 16, 19, 22, 25];
 
-pub const HIGH3_A: [i32; 17] = [
+pub const HIGH3_A: [i32; 19] = [
     1115569184,
     -4,
     -507368000,
@@ -510,12 +544,14 @@ pub const HIGH3_A: [i32; 17] = [
     0,
     0,
     0,
+    0,
+    0,
 ];
 
 // Label 430, GAS5 to GAS8.
 pub const HIGH3_B_BYTES: [u8; 10] = [1, 5, 9, 13, 16, 18, 20, 23, 27, 31];
 
-pub const HIGH3_B: [i32; 17] = [
+pub const HIGH3_B: [i32; 19] = [
     87373568,
     42,
     -883469184,
@@ -533,6 +569,8 @@ pub const HIGH3_B: [i32; 17] = [
     1,
     -903863520,
     -5,
+    0,
+    0,
 ];
 
 // Label 430, GAS9.

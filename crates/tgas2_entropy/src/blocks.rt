@@ -3,7 +3,7 @@
 // Label 80, GAS1 to GAS4.
 pub const LOW_N_BYTES: [u8; 10] = [1, 5, 9, 13, 16, 18, 20, 23, 27, 31];
 
-pub const LOW_N: [i32; 17] = [
+pub const LOW_N: [i32; 19] = [
     -1320875408,
     -2,
     1511907552,
@@ -21,12 +21,14 @@ pub const LOW_N: [i32; 17] = [
     -4,
     -1340342144,
     14,
+    0,
+    0,
 ];
 
 // Label 90, GAS1 to GAS4.
 pub const MIDDLE_N_BYTES: [u8; 10] = [1, 5, 9, 13, 16, 18, 20, 23, 27, 31];
 
-pub const MIDDLE_N: [i32; 17] = [
+pub const MIDDLE_N: [i32; 19] = [
     985817600,
     25,
     1692240256,
@@ -44,12 +46,14 @@ pub const MIDDLE_N: [i32; 17] = [
     -3,
     1175994336,
     9,
+    0,
+    0,
 ];
 
 // Label 100, GAS1 to GAS4.
 pub const HIGH_N_BYTES: [u8; 10] = [1, 5, 9, 13, 16, 18, 20, 23, 27, 31];
 
-pub const HIGH_N: [i32; 17] = [
+pub const HIGH_N: [i32; 19] = [
     -5462912,
     47,
     -1281028928,
@@ -67,4 +71,6 @@ pub const HIGH_N: [i32; 17] = [
     -2,
     -1295936480,
     5,
+    0,
+    0,
 ];

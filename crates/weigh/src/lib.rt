@@ -1,11 +1,13 @@
 // Free answer two of document 01: the weight of a transition, 10^10 / (1 + e^q) for q in units of 10^-10.
 // Method: q = i/16 + r with r below 1/16; c = scale / e^(i/16) from two tables, v = scale * e^r from seven terms of the series,
 // and the weight is c / (c + v). scale is 1.8 * 10^11. Proved: within 2 units for every number of terms from 128 up.
+// A minus transition (document 02, request 3) has 10^10 / (1 - e^q), by c / (v - c): within 2 units from 1.9 on, on either side of 0.
 ghost use mathlib.Core.Path.{_≡_};
 ghost use Prim.Native.Nat.{_+_, _*_, _<_, _≤_};
+ghost use lib.IntN.{natAbs};
 ghost use lib.ListN.{getD};
-ghost use Rattle.weight.specs.Weight.{tolerance, IsWeight};
-ghost use Rattle.weight.specs.Choice.{scale, wholes, sixteenths, inverse, exponential, share, weightAbove, weightOf};
+ghost use Rattle.weight.specs.Weight.{tolerance, IsWeight, IsMinusWeight};
+ghost use Rattle.weight.specs.Choice.{scale, wholes, sixteenths, inverse, exponential, portion, weightOf, minusOf, aboveBy, FarEnough};
 
 // scale / e^n, rounded up.
 fn whole(n: u64) -> u64
@@ -90,23 +92,28 @@ fn exponential_of(r: u64) -> u64
     180000000000 + first + second + third + fourth + fifth + sixth
 }
 
-// 10^10 * c / (c + v), with the sum rounded to hundreds so that one quotient gives it.
-fn share_of(c: u64, v: u64) -> u64
-    requires { ⌜ (c ≤ scale + 1) × (scale ≤ v) × (v ≤ 2 * scale) ⌝ }
-    ensures { λ w. ⌜ w ≡ share c v ⌝ }
+// 10^10 * c / g, with g rounded to hundreds so that one quotient gives it.
+fn portion_of(c: u64, g: u64) -> u64
+    requires { ⌜ (c ≤ scale + 1) × (scale ≤ 2 * g) × (g ≤ 4 * scale) ⌝ }
+    ensures { λ w. ⌜ w ≡ portion c g ⌝ }
 {
-    c * 100000000 / ((c + v + 50) / 100)
+    c * 100000000 / ((g + 50) / 100)
 }
 
-// The weight at u units.
-fn above(u: u64) -> u64
-    ensures { λ w. ⌜ w ≡ weightAbove u ⌝ }
+// The weight at u units: c / (c + v). Of a minus transition 10^10 / (e^u - 1): c / (v - c).
+fn above(u: u64, minus: bool) -> u64
+    requires { ⌜ FarEnough minus u ⌝ }
+    ensures { λ w. ⌜ w ≡ aboveBy minus u ⌝ }
 {
-    if u < 240000000000 {
-        share_of(inverse_at(u / 625000000), exponential_of(u % 625000000))
-    } else {
-        0
+    if u >= 240000000000 {
+        return 0;
     }
+    let c = inverse_at(u / 625000000);
+    let v = exponential_of(u % 625000000);
+    if minus {
+        return portion_of(c, v - c);
+    }
+    portion_of(c, c + v)
 }
 
 // The weight at q units of 10^-10.
@@ -116,8 +123,22 @@ pub fn weight(q: i64) -> i64
 {
     if q < 0 {
         let m = (-1 - q) as u64;
-        (10000000000 - above(m + 1)) as i64
+        (10000000000 - above(m + 1, false)) as i64
     } else {
-        above(q as u64) as i64
+        above(q as u64, false) as i64
+    }
+}
+
+// The weight of a minus transition at q units of 10^-10.
+pub fn weight_minus(q: i64) -> i64
+    requires { ⌜ 19000000000 ≤ natAbs q ⌝ }
+    ensures { λ w. ⌜ w ≡ minusOf q ⌝ }
+    ensures { λ w. ⌜ IsMinusWeight tolerance q w ⌝ }
+{
+    if q < 0 {
+        let m = (-1 - q) as u64;
+        (10000000000 + above(m + 1, true)) as i64
+    } else {
+        0 - above(q as u64, true) as i64
     }
 }

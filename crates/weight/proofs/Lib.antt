@@ -7,5 +7,8 @@ pub mod Table
 pub mod Inverse
 pub mod Exponential
 pub mod Near
+pub mod Minus
+pub mod MinusMoved
+pub mod Either
 pub mod Sizes
 pub mod Pins

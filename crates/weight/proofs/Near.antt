@@ -14,9 +14,9 @@ use Rattle.integer.specs.Z.{zs, ≤-by}
 use Rattle.fraction.specs.Fraction.{Within, parts, times, whole}
 use Rattle.fraction.proofs.Order.{within-more}
 use Rattle.weight.specs.Weight.{num, den, units, tolerance, ideal, IsWeight}
-use Rattle.weight.specs.Choice.{scale, inverse, exponential, share, orZero, weightAbove, weightOf}
-use Rattle.weight.proofs.Series.{den-pos, den-le-num, num-mono}
-use Rattle.weight.proofs.Tail.{sum-mono}
+use Rattle.weight.specs.Choice.{scale, inverse, exponential, portion, share, orZero, weightAbove, weightOf}
+use Rattle.weight.proofs.Series.{den-pos, den-le-num}
+use Rattle.weight.proofs.Tail.{sum-mono, sum-least}
 use Rattle.weight.proofs.Exponential.{exponential-up, exponential-low, exponential-ge}
 use Rattle.weight.proofs.Addition.{add-up, add-low}
 use Rattle.weight.proofs.Inverse.{Inverse, product-le, inverse-is}
@@ -37,6 +37,25 @@ ratio-low s c v d x y z pd hc hv up most dz =
     le-of-mul-le-mul-right {k = d}
     (omega (arith, mul-le-mul-left c up, mul-le-mul-right y hc, mul-le-mul-right d hv, mul-le-mul-right d dz))
     pd
+
+-- ---- w is 10^10 · c / g, with g rounded to hundreds
+module _ (c g w : ℕ) (e : w ≡ portion c g) where
+  abbrev hundreds : ℕ
+  hundreds = (g + 50) / 100
+
+  rounded-high : g + 50 < hundreds * 100 + 100
+  rounded-high = lt-div-mul-add {a = g + 50} {b = 100} (lit< tt)
+
+  pub part-high : w * g ≤ units * c + 49 * w
+  part-high =
+      let k : g ≤ hundreds * 100 + 49 = omega (arith, rounded-high) in
+      let q : w * hundreds ≤ c * 100000000 = rw e (div-mul-le-self (c * 100000000) hundreds) in
+      omega (arith, mul-le-mul-left w k)
+
+  pub part-low : 50 ≤ g → units * c ≤ (w + 1) * (g + 50)
+  part-low wide =
+      let q : c * 100000000 < w * hundreds + hundreds = rw e (lt-div-mul-add {a = c * 100000000} {b = hundreds} (omega (arith, rounded-high))) in
+      omega (arith, mul-le-mul-left (w + 1) (div-mul-le-self (g + 50) 100))
 
 -- ---- from v / c to the weight w, which is near b · c / (c + v): p / d is the sum at q
 module _ (b c v w : ℕ) (some : 0 < c) (hv : 18 * b ≤ v) (hc : c ≤ v + 1) (hb : 100 ≤ b) (above : w * (c + v) ≤ b * c + 49 * w) where
@@ -74,7 +93,7 @@ record Near (u w : ℕ) : Type 0 where
 
 -- ---- below 24
 module _ (a r c : ℕ) (small : r < 625000000) (below : a + r < 240000000000) (is : Inverse 4 122 a c) where
-  abbrev v : ℕ
+  abbrev pub v : ℕ
   v = exponential r
 
   up-128 : v * den units 128 ≤ c * num units (a + r) 128
@@ -82,20 +101,20 @@ module _ (a r c : ℕ) (small : r < 625000000) (below : a + r < 240000000000) (i
       ratio-up scale c v (den units 122) (den units 6) (den units 128) (num units a 122) (num units r 6) (num units (a + r) 128)
       (lit< tt) (den-pos units 122 (lit< tt)) (den-pos units 6 (lit< tt)) (is .low) (exponential-up r small) (add-low units a r 122 6 (lit< tt))
 
-  up : (n : ℕ) → 128 ≤ n → v * den units n ≤ c * num units (a + r) n
+  pub up : (n : ℕ) → 128 ≤ n → v * den units n ≤ c * num units (a + r) n
   up n h =
       le-of-mul-le-mul-right {k = den units 128}
       (omega (arith, mul-le-mul-right (den units n) up-128, mul-le-mul-left c (sum-mono units (a + r) 128 n (lit< tt) h)))
       (den-pos units 128 (lit< tt))
 
-  low : (n : ℕ) → 128 ≤ n → c * num units (a + r) n ≤ v * den units n + 18 * num units (a + r) n
+  pub low : (n : ℕ) → 128 ≤ n → c * num units (a + r) n ≤ v * den units n + 18 * num units (a + r) n
   low n h =
       ratio-low scale c v (den units n) (num units a n) (num units r n) (num units (a + r) n)
       (den-pos units n (lit< tt)) (is .high n h)
       (exponential-low r small n (omega arith))
       (add-up units a r n (lit< tt)) (product-le units a r n (lit< tt) (omega arith)) (den-le-num units (a + r) n)
 
-  some : 0 < c
+  pub some : 0 < c
   some = by c (is .low)
     where
       by : (c : ℕ) → scale * den units 122 ≤ c * num units a 122 → 0 < c
@@ -119,61 +138,51 @@ module _ (a r c : ℕ) (small : r < 625000000) (below : a + r < 240000000000) (i
       apart : c ≤ v + 1
       apart = omega (arith, exponential-ge r small)
 
-      -- the rounded sum
-      h : ℕ
-      h = (c + v + 50) / 100
-
-      rounded-low : h * 100 ≤ c + v + 50
-      rounded-low = div-mul-le-self (c + v + 50) 100
-
-      rounded-high : c + v + 50 < h * 100 + 100
-      rounded-high = lt-div-mul-add {a = c + v + 50} {b = 100} (lit< tt)
-
       quotient-high : w * (c + v) ≤ units * c + 49 * w
-      quotient-high =
-          let k : c + v ≤ h * 100 + 49 = omega (arith, rounded-high) in
-          let q : w * h ≤ c * 100000000 = rw e (div-mul-le-self (c * 100000000) h) in
-          omega (arith, mul-le-mul-left w k)
+      quotient-high = part-high c (c + v) w e
 
       quotient-low : units * c ≤ (w + 1) * (c + v + 50)
-      quotient-low =
-          let q : c * 100000000 < w * h + h = rw e (lt-div-mul-add {a = c * 100000000} {b = h} (omega (arith, rounded-high, enough))) in
-          omega (arith, mul-le-mul-left (w + 1) rounded-low)
+      quotient-low = part-low c (c + v) w e (omega (arith, enough))
 
 -- ---- from 24 on: the sum is above 10^10
 at-24 : units * den units 128 ≤ num units 240000000000 128
 unfolding num den
 at-24 = lit≤ tt
 
+pub from-24 : (u n : ℕ) → 240000000000 ≤ u → 128 ≤ n → units * den units n ≤ num units u n
+from-24 u n h k = omega (arith, sum-least units units 1 240000000000 u 128 n (lit< tt) (omega (arith, at-24)) h k)
+
 near-zero : (u : ℕ) → 240000000000 ≤ u → Near u 0
-near-zero u h = record { most = omega arith; low = λ n k. omega (arith, big n k); high = λ n k. omega arith }
+near-zero u h = record { most = omega arith; low = λ n k. omega (arith, from-24 u n h k); high = λ n k. omega arith }
+
+-- what holds of u taken apart, below 24, and of 0 from there on holds of the choice's cases
+pub by-24 : (P : ℕ → ℕ → Type 0) (f : ℕ → ℕ → ℕ) (u : ℕ)
+    → ((i r : ℕ) → i < 384 → r < 625000000 → i * 625000000 + r ≡ u → P (i * 625000000 + r) (f (inverse i) (exponential r)))
+    → (240000000000 ≤ u → P u 0)
+    → P u (orZero (ltb u 240000000000) (f (inverse (u / 625000000)) (exponential (u % 625000000))))
+by-24 P f u below from = by (ltb u 240000000000) refl
   where
-    big : (n : ℕ) → 128 ≤ n → units * den units n ≤ num units u n
-    big n k =
-        le-of-mul-le-mul-right {k = den units 128}
-        (omega (
-          arith,
-          mul-le-mul-right (den units n) at-24,
-          mul-le-mul-right (den units n) (num-mono units 128 h),
-          sum-mono units u 128 n (lit< tt) k,
-        ))
-        (den-pos units 128 (lit< tt))
+    i : ℕ
+    i = u / 625000000
+
+    r : ℕ
+    r = u % 625000000
+
+    whole-is : i * 625000000 + r ≡ u
+    whole-is = div-add-mod' u 625000000
+
+    by : (t : Bool) → ltb u 240000000000 ≡ t → P u (orZero t (f (inverse i) (exponential r)))
+    by true e =
+        let h = ltb-true u 240000000000 e in
+        subst (λ (x : ℕ). P x (f (inverse i) (exponential r))) whole-is (below i r (omega arith) (mod-lt u (lit< tt)) whole-is)
+    by false e = from (ltb-false u 240000000000 e)
 
 near-above : (u : ℕ) → Near u (weightAbove u)
 unfolding weightAbove
-near-above u = by (ltb u 240000000000) refl
-  where
-    whole-is : u / 625000000 * 625000000 + u % 625000000 ≡ u
-    whole-is = div-add-mod' u 625000000
-
-    by : (t : Bool) → ltb u 240000000000 ≡ t → Near u (orZero t (share (inverse (u / 625000000)) (exponential (u % 625000000))))
-    by true e =
-        let h = ltb-true u 240000000000 e in
-        subst (λ (x : ℕ). Near x (share (inverse (u / 625000000)) (exponential (u % 625000000)))) whole-is
-        (near-below (u / 625000000 * 625000000) (u % 625000000) (inverse (u / 625000000)) (mod-lt u (lit< tt)) (omega (arith, whole-is))
-        (inverse-is (u / 625000000) (omega arith)) (share (inverse (u / 625000000)) (exponential (u % 625000000)))
-        (inverse-le (u / 625000000) (omega arith)) refl)
-    by false e = near-zero u (ltb-false u 240000000000 e)
+near-above u =
+    by-24 Near share u
+    (λ i r l s e. near-below (i * 625000000) r (inverse i) s (omega arith) (inverse-is i l) (share (inverse i) (exponential r)) (inverse-le i l) refl)
+    (near-zero u)
 
 -- ---- in whole numbers, for both signs
 pub within : (k w t d : ℕ) → 0 < d → w * d ≤ units * t + k * d → units * t ≤ (w + k) * d → Within k (pos w) (times (whole (pos units)) (parts d (pos t)))

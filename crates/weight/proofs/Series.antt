@@ -21,7 +21,7 @@ unfolding num
 num-mono b zero h = omega arith
 num-mono b (suc n) h = omega (arith, mul-le-mul-right (suc n * b) (num-mono b n h), pow-le-pow-left h (suc n))
 
-sum-more : (b u n : ℕ) → num b u n * (suc n * b) ≤ num b u (suc n)
+pub sum-more : (b u n : ℕ) → num b u n * (suc n * b) ≤ num b u (suc n)
 unfolding num
 sum-more b u n = omega arith
 
@@ -69,7 +69,7 @@ pow-lip a d (suc n) =
       mul-le-mul-left a (pow-lip a d n),
     )
 
-num-lip : (b a d n : ℕ) → num b (a + d) (suc n) ≤ num b a (suc n) + suc n * (d * num b (a + d) n)
+pub num-lip : (b a d n : ℕ) → num b (a + d) (suc n) ≤ num b a (suc n) + suc n * (d * num b (a + d) n)
 unfolding num
 num-lip b a d zero = rw (pow-one (a + d), pow-one a) (omega arith)
 num-lip b a d (suc n) = omega (arith, mul-le-mul-right (suc (suc n) * b) (num-lip b a d n), pow-lip a d (suc n))
@@ -93,12 +93,6 @@ num-zero : (b n : ℕ) → num b 0 n ≡ den b n
 unfolding num den
 num-zero b zero = refl
 num-zero b (suc n) = omega (arith, ap (λ x. x * (suc n * b)) (num-zero b n), pow-succ' 0 n ∙ zero-mul (0 ^ n))
-
--- P (a + d) / (D + P (a + d)) - P a / (D + P a) ≤ d / (2 b)
-pub minus-lip : (b a d n : ℕ)
-    → 2 * b * (num b (a + d) n * (den b n + num b a n))
-    ≤ 2 * b * (num b a n * (den b n + num b (a + d) n)) + d * ((den b n + num b a n) * (den b n + num b (a + d) n))
-minus-lip b a d n = omega (arith, ideal-lip b a d n)
 
 half : (b u n : ℕ) → b * num b u n ≤ b * den b n + u * (den b n + num b u n)
 half b u zero = unfold num den in omega arith

@@ -1,11 +1,11 @@
 -- The sum num b u n / den b n for more and more terms: it grows, and what is left beyond a term is small.
 use mathlib.Core.Path.{ap}
 use Prim.Native.Nat.{ℕ, suc, _+_, _*_, _^_, _≤_, _<_}
-use native.Mathlib.Nat.{le-refl, mul-le-mul-right, le-of-mul-le-mul-right, pow-succ'}
+use native.Mathlib.Nat.{le-refl, mul-le-mul-left, mul-le-mul-right, le-of-mul-le-mul-right, pow-succ'}
 use native.Mathlib.Decide.{le-ind}
 use native.Mathlib.Omega.{arith}
 use Rattle.weight.specs.Weight.{num, den}
-use Rattle.weight.proofs.Series.{den-pos}
+use Rattle.weight.proofs.Series.{den-pos, num-mono}
 
 -- ---- the true sum grows with the number of terms
 sum-step : (b u n : ℕ) → num b u n * den b (suc n) ≤ num b u (suc n) * den b n
@@ -22,6 +22,13 @@ sum-mono b u n m p h =
     le-ind (λ k. num b u n * den b k ≤ num b u k * den b n) (le-refl _)
     (λ k l r. frac-trans (num b u n) (den b n) (num b u k) (den b k) (num b u (suc k)) (den b (suc k)) (den-pos b k p) r (sum-step b u k))
     m h
+
+-- what the sum is at least, it is with a larger u and more terms
+pub sum-least : (b p m a u k n : ℕ) → 0 < b → p * den b k ≤ m * num b a k → a ≤ u → k ≤ n → p * den b n ≤ m * num b u n
+sum-least b p m a u k n h at l more =
+    le-of-mul-le-mul-right {k = den b k}
+    (omega (arith, mul-le-mul-right (den b n) at, mul-le-mul-right (m * den b n) (num-mono b k l), mul-le-mul-left m (sum-mono b u k n h more)))
+    (den-pos b k h)
 
 -- ---- the tail: once a term is at most a fifth of the one before, four times the sum and the last term only fall
 tail-step : (b u n : ℕ) → 5 * u ≤ suc n * b

@@ -2,13 +2,14 @@
 -- A reader need believe nothing here: the law `weight-is` of proofs/Near says that it is a weight as specs/Weight defines one.
 --
 -- Method: q = i/16 + r with r below 1/16. With c = scale / e^(i/16) and v = scale · e^r the weight 1 / (1 + e^q) is c / (c + v).
+-- Of a minus transition, 1 / (e^q - 1) is c / (v - c): good from q = 1.9 on (the law `minus-is` of proofs/Minus).
 use mathlib.Core.Bool.{Bool, true, false}
 use mathlib.Core.List.{List, [], _∷_}
-use Prim.Native.Nat.{ℕ, suc, _+_, _-_, _*_, _/_, _%_}
+use Prim.Native.Nat.{ℕ, suc, _+_, _-_, _*_, _/_, _%_, _≤_}
 use lib.Dec.{ltb}
-use lib.IntN.{ℤ, pos, negsuc}
+use lib.IntN.{ℤ, pos, negsuc, negℤ, natAbs}
 use lib.ListN.{getD}
-use Rattle.weight.specs.Weight.{units}
+use Rattle.weight.specs.Weight.{units, Sign, onePlus, oneMinus}
 
 -- what stands for 1 in the sums and in the tables
 abbrev pub scale : ℕ
@@ -55,9 +56,13 @@ sixth r = fourth r * square r / 300000000000
 unfoldable pub exponential : ℕ → ℕ
 exponential r = scale + 18 * r + second r + third r + fourth r + fifth r + sixth r
 
--- c parts of c + v, in units; the sum is rounded to hundreds, so that 64 bits hold all
+-- c parts of g, in units; g is rounded to hundreds, so that 64 bits hold all
+abbrev pub portion : ℕ → ℕ → ℕ
+portion c g = c * 100000000 / ((g + 50) / 100)
+
+-- c parts of c + v
 unfoldable pub share : ℕ → ℕ → ℕ
-share c v = c * 100000000 / ((c + v + 50) / 100)
+share c v = portion c (c + v)
 
 -- a where the test holds, else 0
 abbrev pub orZero : Bool → ℕ → ℕ
@@ -72,3 +77,36 @@ weightAbove u = orZero (ltb u 240000000000) (share (inverse (u / 625000000)) (ex
 unfoldable pub weightOf : ℤ → ℤ
 weightOf (pos u) = pos (weightAbove u)
 weightOf (negsuc u) = pos (units - weightAbove (suc u))
+
+-- c parts of v - c
+unfoldable pub minusShare : ℕ → ℕ → ℕ
+minusShare c v = portion c (v - c)
+
+-- 1 / (S - 1) at u units, from 1.9 on
+unfoldable pub minusAbove : ℕ → ℕ
+minusAbove u = orZero (ltb u 240000000000) (minusShare (inverse (u / 625000000)) (exponential (u % 625000000)))
+
+-- either of them, and where it is good
+abbrev pub aboveBy : Bool → ℕ → ℕ
+aboveBy false u = weightAbove u
+aboveBy true u = minusAbove u
+
+abbrev pub FarEnough : Bool → ℕ → Type 0
+FarEnough false u = Unit
+FarEnough true u = 19000000000 ≤ u
+
+-- the weight of a minus transition at q units: 1 / (1 - S), or S / (S - 1), which is 1 more than 1 / (S - 1)
+unfoldable pub minusOf : ℤ → ℤ
+minusOf (pos u) = negℤ (pos (minusAbove u))
+minusOf (negsuc u) = pos (units + minusAbove (suc u))
+
+-- by the sign of the transition
+abbrev pub weightBy : Sign → ℤ → ℤ
+weightBy onePlus q = weightOf q
+weightBy oneMinus q = minusOf q
+
+-- the exponents that a choice of weights serves: every one of a plus transition, and from 1.9 on, either way, of a minus transition,
+-- nearer to 0 than which no listing's piece has one
+abbrev pub Served : Sign → ℤ → Type 0
+Served onePlus q = Unit
+Served oneMinus q = 19000000000 ≤ natAbs q

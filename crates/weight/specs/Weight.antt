@@ -1,6 +1,6 @@
 -- Document 01, Weight: the ideal weight of a transition, and what a weight in whole units must meet (free answer two).
-use Prim.Native.Nat.{ℕ, zero, suc, _+_, _*_, _^_, _≤_}
-use lib.IntN.{ℤ, pos, negsuc}
+use Prim.Native.Nat.{ℕ, zero, suc, _+_, _-_, _*_, _^_, _≤_}
+use lib.IntN.{ℤ, pos, negsuc, negℤ, natAbs}
 use lib.Signed.{_≤ℤ_}
 use Rattle.fraction.specs.Fraction.{Fraction, Within, parts, times, whole}
 
@@ -30,6 +30,29 @@ idealAt n (negsuc u) b = idealBelow n (suc u) b
 unfoldable pub ideal : ℕ → Fraction → Fraction
 ideal n q = idealAt n (q .top) (q .bottom)
 
+-- ---- document 02, request 3: a listing divides by one plus the exponential or by one minus it
+pub data Sign : Type 0 where
+  onePlus : Sign
+  oneMinus : Sign
+
+-- S - 1, S at u / b: it is excess b u N / den b N
+abbrev pub excess : ℕ → ℕ → ℕ → ℕ
+excess b u n = num b u n - den b n
+
+-- the ideal weight of a minus transition, by the sign of the exponent z / b: for a positive one 1 / (1 - S), which is -1 / (S - 1),
+-- for a negative one S / (S - 1), S without the sign. Both have S - 1 below
+abbrev pub minusTop : ℕ → ℤ → ℕ → ℤ
+minusTop n (pos u) b = negℤ (pos (den b n))
+minusTop n (negsuc u) b = pos (num b (suc u) n)
+
+unfoldable pub idealMinus : ℕ → Fraction → Fraction
+idealMinus n q = record { top = minusTop n (q .top) (q .bottom); bottom = excess (q .bottom) (natAbs (q .top)) n }
+
+-- the ideal weight of either
+abbrev pub idealOf : Sign → ℕ → Fraction → Fraction
+idealOf onePlus n q = ideal n q
+idealOf oneMinus n q = idealMinus n q
+
 -- document 01, Quantities: fit values, exponents and weights are whole units of 10^-10, so that this many make 1
 abbrev pub units : ℕ
 units = 10000000000
@@ -44,3 +67,11 @@ pub record IsWeight (k : ℕ) (q w : ℤ) : Type 0 where
   pub least : pos 0 ≤ℤ w
   pub most : w ≤ℤ pos units
   pub near : (n : ℕ) → 128 ≤ n → Within k w (times (whole (pos units)) (ideal n (parts units q)))
+
+-- request 3: w is near the ideal weight of a minus transition; it may be negative or above 1
+pub record IsMinusWeight (k : ℕ) (q w : ℤ) : Type 0 where
+  pub near : (n : ℕ) → 128 ≤ n → Within k w (times (whole (pos units)) (idealMinus n (parts units q)))
+
+abbrev pub IsWeightOf : Sign → ℕ → ℤ → ℤ → Type 0
+IsWeightOf onePlus k q w = IsWeight k q w
+IsWeightOf oneMinus k q w = IsMinusWeight k q w

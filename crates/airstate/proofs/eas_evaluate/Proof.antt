@@ -1,13 +1,11 @@
 -- `airstate::eas_evaluate` refuses what no byte is, and else meets its contract by its two calls.
-use mathlib.Core.Bool.{Bool}
 use mathlib.Core.Path.{_≡_, sym, ap, _∙_}
 use Prim.Native.Nat.{ℕ, _<_}
 use native.Mathlib.Omega.{arith}
 use borrow.Author.Tests.{ne-eqb}
-use lib.Dec.{eqb}
 use Rattle.kind.specs.declared.Kind.{Kind}
-use Rattle.kind.specs.declared.Kind.the-variants.{Temperature, Entropy, Unknown}
-use Rattle.kind.specs.Kind.{pickKind, kindOf}
+use Rattle.kind.specs.declared.Kind.the-variants.{Unknown}
+use Rattle.kind.specs.Kind.{kindOf}
 use Rattle.air.specs.Choices.{chosen}
 use Rattle.air.specs.Held.{refuses}
 use Rattle.air.specs.State.{propertyOf, heldBy, answerBy}
@@ -19,9 +17,7 @@ use Rattle.airstate.proofs.eas_evaluate.Tie as tie
 
 -- a number over 255 is no kind
 no-kind : (k : ℕ) → 255 < k → kindOf k ≡ Unknown
-no-kind k h =
-    ap (λ (b : Bool). pickKind b Temperature (pickKind (eqb k 2) Entropy Unknown)) (ne-eqb k 1 (λ e. omega arith))
-    ∙ ap (λ (b : Bool). pickKind b Entropy Unknown) (ne-eqb k 2 (λ e. omega arith))
+no-kind k h = simp (ne-eqb k 1 (λ e. omega arith), ne-eqb k 2 (λ e. omega arith), ne-eqb k 3 (λ e. omega arith))
 
 no-answer : (k v w : ℕ) → 255 < k → refuses 6 ≡ answerBy chosen k v w
 unfolding answerBy

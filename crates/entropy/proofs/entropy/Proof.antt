@@ -1,30 +1,23 @@
 -- `entropy::entropy` tests the ranges, takes the logarithms and follows them.
-use mathlib.Core.Bool.{Bool, true, false}
-use mathlib.Core.Path.{_≡_, sym, ap, _∙_, subst}
-use Prim.Native.Nat.{ℕ, _^_, _≤_, _<_}
+use mathlib.Core.Bool.{true}
+use mathlib.Core.Path.{_≡_, sym, _∙_}
+use Prim.Native.Nat.{_^_, _<_}
 use native.Mathlib.Omega.{arith}
 use borrow.Author.Needs.{needs}
 use borrow.Author.Tests.{not-true, not-false}
-use lib.Dec.{T, leb, leb→le, lit<}
-use lib.IntN.{ℤ, pos}
+use lib.Dec.{lit<}
 use mir.Syntax.{w64}
 use mir.Val.{toZ, ofZ}
 use Rattle.integer.specs.Tests.{is-true}
 use Rattle.logarithm.specs.Choice.{logOf}
 use Rattle.integer.proofs.Machine.{back-ok}
-use Rattle.air.specs.declared.Logs.{Logs}
 use Rattle.air.specs.Quantities.{D0, E0, within, isEnergy, isDensity}
-use Rattle.air.specs.Entropy.{entropyFrom}
 use Rattle.air.specs.Choices.{chosen}
-use Rattle.air.specs.State.{entropyLogs}
 use Rattle.air.proofs.Tests.{at-least}
 use Rattle.air.proofs.Allowed.{lawful, entropy-logs, first-refused, second-refused, both-in-range}
-use Rattle.air.specs.Ready.{PlaceReady}
-use Rattle.entropy.proofs.Laws.{place-ready}
+use Rattle.air.proofs.Claims.{place-ready}
 use Rattle.entropy.proofs.entropy.Statement.{statement}
 use Rattle.entropy.proofs.entropy.Tie as tie
-use Rattle.entropy.proofs.entropy.Reads as reads
-use Rattle.entropy.proofs.entropy.Lts as lts
 
 -- ---- the ranges
 energy : (c : tie.Else1) → isEnergy (c .before .before .args .e) ≡ true

@@ -9,8 +9,6 @@ use Rattle.air.specs.State.{propertyOf, heldBy, answerBy, IsAnswer}
 use Rattle.air.proofs.Allowed.{allowed, lawful}
 use Rattle.evaluate.proofs.evaluate.Statement.{statement}
 use Rattle.evaluate.proofs.evaluate.Tie as tie
-use Rattle.evaluate.proofs.evaluate.Reads as reads
-use Rattle.evaluate.proofs.evaluate.Lts as lts
 
 -- an answer that holds what its kind makes is the choices' answer, and allowed
 by-kind : (c : tie.After-kind-of) (k : Kind) (a : Answer) → c .kind-of .result ≡ k → let s = c .before in
@@ -40,6 +38,12 @@ entropy-requires c κs = search needs
 enum-told-3 : tie.Need-enum-told-3
 enum-told-3 c = search needs
 
+pressure-requires : tie.Need-pressure-requires
+pressure-requires c κs = search needs
+
+enum-told-4 : tie.Need-enum-told-4
+enum-told-4 c = search needs
+
 returns : tie.Need-returns
 returns c = by-kind (c .before .before .before) _ _ (c .before .enum-told .given .1) (c .temperature .ensures)
 
@@ -47,7 +51,10 @@ returns-2 : tie.Need-returns-2
 returns-2 c = by-kind (c .before .before .before) _ _ (c .before .enum-told2 .given .1) (c .entropy .ensures)
 
 returns-3 : tie.Need-returns-3
-returns-3 c = by-kind (c .before .before) _ _ (c .enum-told3 .given .1) refl
+returns-3 c = by-kind (c .before .before .before) _ _ (c .before .enum-told3 .given .1) (c .pressure .ensures)
+
+returns-4 : tie.Need-returns-4
+returns-4 c = by-kind (c .before .before) _ _ (c .enum-told4 .given .1) refl
 
 pub evaluate-spec : {M : Type 1} → statement M
 evaluate-spec =
@@ -59,6 +66,9 @@ evaluate-spec =
     enum-told-2
     entropy-requires
     enum-told-3
+    pressure-requires
+    enum-told-4
     returns
     returns-2
-    returns-3)
+    returns-3
+    returns-4)

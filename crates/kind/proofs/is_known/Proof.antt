@@ -17,6 +17,9 @@ enum-told-2 c = search needs
 enum-told-3 : tie.Need-enum-told-3
 enum-told-3 c = search needs
 
+enum-told-4 : tie.Need-enum-told-4
+enum-told-4 c = search needs
+
 returns : tie.Need-returns
 returns c = sym (ap isKnown (c .enum-told .given .1)) ∙ ap isKnown (c .before .before .kind-of .ensures)
 
@@ -26,7 +29,10 @@ returns-2 c = sym (ap isKnown (c .enum-told2 .given .1)) ∙ ap isKnown (c .befo
 returns-3 : tie.Need-returns-3
 returns-3 c = sym (ap isKnown (c .enum-told3 .given .1)) ∙ ap isKnown (c .before .before .kind-of .ensures)
 
+returns-4 : tie.Need-returns-4
+returns-4 c = sym (ap isKnown (c .enum-told4 .given .1)) ∙ ap isKnown (c .before .before .kind-of .ensures)
+
 pub is-known-spec : {M : Type 1} → statement M
 is-known-spec =
     tie.close
-    (tie.spec kind-of-requires enum-told enum-told-2 enum-told-3 returns returns-2 returns-3)
+    (tie.spec kind-of-requires enum-told enum-told-2 enum-told-3 enum-told-4 returns returns-2 returns-3 returns-4)

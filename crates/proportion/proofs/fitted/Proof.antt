@@ -13,7 +13,7 @@ use Rattle.proportion.proofs.fitted.Tie as tie
 
 scaled-requires : tie.Need-scaled-requires
 scaled-requires c κs =
-    (rw (back (c .fits .w)) (c .pre .1 .0), (rw (back (c .fits .w)) (c .pre .1 .1 .0), search in-back))
+    (rw (back (c .fits .w)) (c .pre .1 .0), search in-back)
 
 part : (c : tie.After-scaled) → toZ w64 (ofZ w64 (c .scaled .result)) ≡ shrZ (c .before .args .w *ℤ c .before .args .b) units
 part c =
@@ -21,7 +21,7 @@ part c =
     ∙ (simp (back (c .before .fits .w), back (c .before .fits .b)) at (c .scaled .ensures))
 
 fit : (s : tie.Start) → SFits w64 (s .args .a +ℤ shrZ (s .args .w *ℤ s .args .b) units)
-fit s = let p = s .pre in in-fits (in-wider tt (fitted-in (p .0) (p .1 .0) (p .1 .1 .0) (p .1 .1 .1)))
+fit s = let p = s .pre in in-fits (in-wider tt (fitted-in (s .args .w) (p .0) (p .1 .0) (p .1 .1)))
 
 add-result : tie.Need-add-result
 add-result c = rw (back (c .before .fits .a), part c) (fit (c .before))

@@ -1,5 +1,5 @@
 -- `proportion::scaled` is the quotient by 10^10: at once, or by 1,024 and then by 9,765,625.
-use mathlib.Core.Path.{_≡_, refl, ap, _∙_}
+use mathlib.Core.Path.{refl, ap, _∙_}
 use Prim.Native.Nat.{_≤_}
 use lib.Dec.{lit<}
 use lib.IntN.{ℤ, natAbs, *ℤ-comm}
@@ -31,7 +31,7 @@ mul-short-requires c κs =
     let w = s .args .w in
     let b = s .args .b in
     rw (back (s .fits .w), back (s .fits .b))
-    (lit< tt, refl, scaled-splits w b (s .pre .0) (s .pre .1 .0) (short c), scaled-divides w b (s .pre .0) (s .pre .1 .0) (short c))
+    (lit< tt, refl, scaled-splits w b (s .pre .0) (short c), scaled-divides w b (s .pre .0) (short c))
 
 returns-2 : tie.Need-returns-2
 returns-2 c =

@@ -20,12 +20,12 @@ rh c = back-ok (c .floor-div .result) (c .floor-div .ok)
 st : (c : tie.After-floor-div) → Scaling (c .before .args .w) (c .before .args .b) (c .floor-div .result)
 st c =
     let s = c .before in
-    scaling (s .args .w) (s .args .b) (c .floor-div .result) (s .pre .0) (s .pre .1 .0) (s .pre .1 .1)
+    scaling (s .args .w) (s .args .b) (c .floor-div .result) (s .pre .0) (s .pre .1)
     (rw (back (s .fits .b)) at (c .floor-div .ensures))
 
 floor-div-requires : tie.Need-floor-div-requires
 floor-div-requires c κs =
-    rw (back (c .fits .b)) (divides units (2 ^ 57) (le-of-lt (c .pre .1 .1 .size)) (lit< tt) (lit< tt))
+    rw (back (c .fits .b)) (divides units (2 ^ 57) (le-of-lt (c .pre .1 .size)) (lit< tt) (lit< tt))
 
 mul-l : tie.Need-mul-l
 mul-l c = rw (rh c) (st c .fit1)

@@ -4,7 +4,6 @@ use lib.IntN.{ℤ, natAbs, _-ℤ_, _*ℤ_}
 use lib.Signed.{shrZ}
 use mir.Syntax.{w64}
 use mir.Val.{toZ, ofZ}
-use Rattle.proportion.specs.Straight.{straight}
 use Rattle.integer.proofs.Machine.{back, back-ok}
 use Rattle.proportion.proofs.Line.{Line, line}
 use Rattle.proportion.proofs.straight.Statement.{statement}

@@ -1,7 +1,6 @@
 -- `temperature_join::joined` is the answer inside a strip: 13 by either edge, or the straight line between their temperatures.
 use mathlib.Core.Bool.{false, _||_}
 use mathlib.Core.Path.{_≡_, refl, sym, ap, ap₂, _∙_}
-use native.Mathlib.Omega.{arith}
 use borrow.Author.Needs.{needs}
 use lib.IntN.{ℤ}
 use mir.Syntax.{w64}
@@ -27,7 +26,8 @@ use Rattle.air.specs.Temperature.{letterT, beyondFit, temperatureRule}
 use Rattle.air.specs.State.{kelvinBy}
 use Rattle.air.proofs.Sizes.{in-25}
 use Rattle.air.proofs.Places.{fit-refused, fit-shown}
-use Rattle.temperature_fit.proofs.Passes.{or-left, or-right, fit-in-57, kelvin-in}
+use Rattle.air.proofs.Tests.{or-left, or-right}
+use Rattle.temperature_fit.proofs.Passes.{fit-in-57, kelvin-in}
 use Rattle.temperature_join.proofs.joined.Statement.{statement}
 use Rattle.temperature_join.proofs.joined.Tie as tie
 

@@ -8,7 +8,7 @@ use mir.Syntax.{w64}
 use mir.Facts.{toZ-ofZ, toZ-pos}
 use Rattle.weight.specs.Weight.{units, tolerance, IsWeight}
 use Rattle.weight.specs.Choice.{weightAbove, weightOf}
-use Rattle.weigh.proofs.Machine.{again, Below, below, Above, above}
+use Rattle.weigh.proofs.Machine.{again, Below, below, Above, above, down-again}
 use Rattle.weight.proofs.Near.{above-most, weight-is}
 use Rattle.weigh.proofs.weight.Statement.{statement}
 use Rattle.weigh.proofs.weight.Tie as tie
@@ -22,10 +22,8 @@ neg c = below (c .before .args .q) (c .before .fits .q) (c .if1 .taken)
 non : (c : tie.Else1) → Above (c .before .args .q)
 non c = above (c .before .args .q) (c .before .fits .q) (c .if1 .left)
 
--- -1 - q as the code has it
 down : (c : tie.Then1) → again (negsuc 0 -ℤ again (c .before .args .q)) ≡ negsuc 0 -ℤ c .before .args .q
-down c =
-    ap (λ z. again (negsuc 0 -ℤ z)) (toZ-ofZ (c .before .fits .q)) ∙ toZ-ofZ (neg c .size .fits)
+down c = down-again (c .before .args .q) (c .before .fits .q) (neg c)
 
 sub-m : tie.Need-sub-m
 sub-m c = rw (toZ-ofZ (c .before .fits .q)) (neg c .size .fits)
