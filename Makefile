@@ -2,14 +2,16 @@
 #
 #   make                             both libraries, the listing program and the tools
 #   make run                         proves and builds the listing program and runs it on the sample sheet
-#   make test                        builds and runs everything under host/, with the listing program, an installation
-#                                    and an unpacked release; a check that is left out is an error
+#   make test                        builds and runs everything under host/, with the listing program, the weights of the
+#                                    program vectors, an installation and an unpacked release; a check that is left out
+#                                    is an error, unless STRICT= is given
 #   make install PREFIX=/usr/local   header, libraries, pkg-config file, programs, man pages and documents; DESTDIR is
 #                                    put in front
 #   make dist                        target/host/airstate-VERSION-MACHINE.tar.gz with all that is installed, for hosts
 #                                    that have no prover
 #
-# rt, the Rattle kit's command, is needed unless STATIC and LISTING name what it built elsewhere.
+# rt, the Rattle kit's command, is needed unless STATIC and LISTING name what it built elsewhere. For make test VECTORS
+# does so too; where it names nothing the weights are left out.
 
 PREFIX ?= /usr/local
 DESTDIR ?=
@@ -21,6 +23,7 @@ DOCDIR ?= $(PREFIX)/share/doc/airstate
 DATADIR ?= $(PREFIX)/share/airstate
 LIBS ?=
 BUILD ?= target/host
+STRICT ?= 1
 
 VERSION := $(shell sed -n 's/^\#define EAS_VERSION "\(.*\)"/\1/p' include/airstate.h)
 MAJOR := $(firstword $(subst ., ,$(VERSION)))
@@ -28,18 +31,21 @@ MAJOR := $(firstword $(subst ., ,$(VERSION)))
 # What the prover's tool builds.
 PROVED_STATIC = target/staticlib/libairstate.a
 PROVED_LISTING = target/bin/listing
+PROVED_VECTORS = target/bin/vectors
 STATIC ?= $(PROVED_STATIC)
 LISTING ?= $(PROVED_LISTING)
+VECTORS ?= $(PROVED_VECTORS)
 SHARED = $(BUILD)/libairstate.so.$(VERSION)
 CRATES = crates.txt $(shell find crates -name '*.rt' -o -name '*.antt')
 
-HOST = $(MAKE) -C host LIB=$(abspath $(STATIC)) BUILD=$(abspath $(BUILD)) LISTING=$(abspath $(LISTING))
+HOST = $(MAKE) -C host LIB=$(abspath $(STATIC)) BUILD=$(abspath $(BUILD)) LISTING=$(abspath $(LISTING)) \
+	VECTORS=$(abspath $(VECTORS))
 
 .PHONY: all tools run install uninstall test dist clean
 
 all: $(STATIC) $(SHARED) $(LISTING) tools
 
-# Both are written after all crates below them are proved, again where one of their files is newer.
+# Each is written after all crates below it are proved, again where one of their files is newer.
 $(PROVED_STATIC): $(CRATES)
 	@host/prove.sh airstate >&2
 	rt staticlib airstate > target/staticlib.log 2>&1 || { tail -n 20 target/staticlib.log; exit 1; }
@@ -47,6 +53,10 @@ $(PROVED_STATIC): $(CRATES)
 
 $(PROVED_LISTING): $(CRATES) | $(PROVED_STATIC)
 	@host/prove.sh listing >&2
+	@touch $@
+
+$(PROVED_VECTORS): $(CRATES) | $(STATIC) $(LISTING)
+	@host/prove.sh vectors >&2
 	@touch $@
 
 # Only the header's entries are visible in the shared library.
@@ -105,10 +115,10 @@ dist:
 	tar -C $(BUILD) --owner=0 --group=0 --sort=name -czf $(BUILD)/$(RELEASE).tar.gz $(RELEASE)
 	@echo $(BUILD)/$(RELEASE).tar.gz
 
-test: all
-	+$(HOST) test STRICT=1
-	STRICT=1 host/tests/install_test.sh $(abspath $(STATIC)) $(abspath $(LISTING)) $(abspath $(BUILD))
-	STRICT=1 host/tests/man_test.sh
+test: all $(VECTORS)
+	+$(HOST) test STRICT=$(STRICT)
+	STRICT=$(STRICT) host/tests/install_test.sh $(abspath $(STATIC)) $(abspath $(LISTING)) $(abspath $(BUILD))
+	STRICT=$(STRICT) host/tests/man_test.sh
 
 clean:
 	rm -rf $(BUILD)

@@ -1,19 +1,22 @@
-"""Judges every line of crates/vectors/stdout that answers a state of crates/vectors/stdin.
+"""Judges every line of crates/vectors/stdout that answers a state or a walk over weights of crates/vectors/stdin.
 
-Written from document 01, requests 1 and 3 and tests/listing/*.txt alone. Regions, fits, entropies, pressures and refusals are
-worked out again in whole numbers, a gamma also from the printed numerals with nothing rounded. The three free answers are taken
-from the line and held to their definitions: a logarithm by decimals of 60 digits, each of which the standard library rounds
-correctly, and as an exact power of ten where these leave a doubt.
-A line that is wrong fails, and so does an edge, a piece, a pair of pieces in a join or a refusal that no line visits. Both sides
+Written from document 01, requests 1, 3 and 4 and tests/listing/*.txt alone. Regions, fits, entropies, pressures and refusals are
+worked out again in whole numbers, a fit also from the printed numerals with nothing rounded, from which a temperature's may differ
+by 4,000 units and a gamma by 100,000. The three free answers are taken from the line and held to their definitions: a logarithm by
+decimals of 60 digits, each of which the standard library rounds correctly, and as an exact power of ten where these leave a doubt;
+a weight, a state's or one of a walk, by the exact sum of 128 terms and by all of them, from which it may differ by 2 units.
+A line that is wrong fails, and so does an edge, a piece, a pair of pieces in a join or a refusal that no line visits, or an exponent
+at which a walk must show the weight: the least that is asked, both sides of 24, the largest, each with both signs. Both sides
 of refusal 13's upper edge are visited exactly: G of 19,600,000,000 and of one unit more. No state comes near its lower edge, a G
 of 0. Joins are visited where a mistaken one would show: far from the line between the exponents, and at a Y that is inside a strip
 of one width and outside of the other. No state has a gamma near 1.01 or 2, or a minus transition's exponent near 0: of refusal 17
 the lines show warnings, judged at each edge by the edge's own band."""
 
 import sys
-from decimal import Decimal, getcontext
+from decimal import MAX_EMAX, Decimal, getcontext
 from fractions import Fraction
 from math import factorial
+from operator import floordiv, truediv
 from pathlib import Path
 from typing import NamedTuple
 
@@ -33,11 +36,13 @@ WINDOW = (-1_000_000, 3_000_000)
 HIGHEST_FIT = 19_600_000_000
 UNITS = 10**10
 TERMS = 128
+TOLERANCE = 2
+LARGEST_EXPONENT, LEAST_MINUS = 2**63 - 1, 19_000_000_000
 LEAST_GAMMA, MOST_GAMMA = 10_100_000_001, 19_999_999_999
 NEAREST_EXPONENT = 500_000_000
-GAMMA_DISTANCE = 100_000
+FIT_DISTANCE, GAMMA_DISTANCE = 4_000, 100_000
 
-getcontext().prec = 60
+getcontext().prec, getcontext().Emax = 60, MAX_EMAX
 NARROW = Decimal(10) ** -40
 
 
@@ -58,14 +63,26 @@ def rounded(rows):
     return {key: [nearest(n) for n in numerals] for key, numerals in rows.items() if key[1] != "SIGN"}
 
 
-TEMPERATURE, ENTROPY = rounded(listing("temperature.txt")), rounded(listing("entropy.txt"))
-PRINTED_GAMMA = listing("pressure.txt")
-GAMMA = rounded(PRINTED_GAMMA)
+class Fits(NamedTuple):
+    """a listing's numerals as printed and in whole units, and how far a fit may lie from the exact one"""
+
+    printed: dict
+    units: dict
+    distance: int
+
+
+def read_fits(file, distance):
+    printed = listing(file)
+    return Fits(printed, rounded(printed), distance)
+
+
+TEMPERATURE, GAMMA = read_fits("temperature.txt", FIT_DISTANCE), read_fits("pressure.txt", GAMMA_DISTANCE)
+ENTROPY = rounded(listing("entropy.txt"))
 
 
 def ends(name):
     """where a band's fitted pieces end, but the last"""
-    return [TEMPERATURE[label, "END"][0] // 10**4 for label in LABELS[name][:-1]]
+    return [TEMPERATURE.units[label, "END"][0] // 10**4 for label in LABELS[name][:-1]]
 
 
 def limit(name):
@@ -76,19 +93,22 @@ def band(y):
     return BANDS[sum(y > edge for edge in EDGES)]
 
 
-def mul(a, b):
-    return a * b // 10**6
+def millionths(divide):
+    """the product of a number and of millionths"""
+    return lambda a, b: divide(a * b, 10**6)
 
 
-def bicubic(rows, label, first, y, z, mul=mul):
+def bicubic(rows, label, first, y, z, divide=floordiv):
+    mul = millionths(divide)
     a, b, c, d, e, f, g, h, i, j = (n for k in range(first, first + 4) for n in rows[label, f"GAS{k}"])
     square_y = mul(mul(e + mul(f, z) + mul(g, y), y), y)
     square_z = mul(mul(h + mul(i, y) + mul(j, z), z), z)
     return a + mul(b, y) + mul(c + mul(d, y), z) + square_y + square_z
 
 
-def exponent(rows, label, y, z, mul=mul):
+def exponent(rows, label, y, z, divide=floordiv):
     """kept within a bound where the listing has one"""
+    mul = millionths(divide)
     a, b, c, d = rows[label, "GAS9"]
     q = a + mul(b, y) + mul(c, z) + mul(mul(d, y), z)
     (most,) = rows.get((label, "KEPT"), [abs(q)])
@@ -134,7 +154,7 @@ def ideals(q, minus):
 
 def is_weight(q, w, minus=False):
     first, last = (abs(w - UNITS * ideal) for ideal in ideals(q, minus))
-    return (minus or 0 <= w <= UNITS) and first <= 10 and last < 10 - NARROW
+    return (minus or 0 <= w <= UNITS) and first <= TOLERANCE and last < TOLERANCE - NARROW
 
 
 # ---- an answer, by the columns of its line
@@ -193,17 +213,50 @@ def piece_of(y, z):
     return sum(z > end for end in ends(band(y)))
 
 
-def fit_at(y, z, weight):
-    """the place of a fit, its G with a weight, and whether that weight is right"""
-    name, piece = band(y), piece_of(y, z)
-    label, place = LABELS[name][piece], f"T {name} piece {piece + 1}"
-    g = bicubic(TEMPERATURE, label, 1, y, z)
-    if piece == 0:
-        return place, g, weight == 0
-    q = exponent(TEMPERATURE, label, y, z)
+def is_weighed(rows, label):
+    return (label, "GAS5") in rows
+
+
+def is_minus(fits, label):
+    """the exponential is taken from 1"""
+    return fits.printed.get((label, "SIGN")) == ["-"]
+
+
+def fit_with(rows, label, y, z, weight, divide=floordiv):
+    """a constant, a bicubic or one and the weighted part of another"""
+    if (label, "GAMMA") in rows:
+        return rows[label, "GAMMA"][0]
+    g = bicubic(rows, label, 1, y, z, divide)
+    return g + divide(weight * bicubic(rows, label, 5, y, z, divide), UNITS) if is_weighed(rows, label) else g
+
+
+def exact_fits(fits, label, y, z):
+    """with nothing rounded: for 128 terms, and for all"""
+    weights = [0]
+    if is_weighed(fits.printed, label):
+        weights = ideals(exponent(fits.printed, label, y, z, truediv), is_minus(fits, label))
+    return [fit_with(fits.printed, label, y, z, UNITS * Fraction(weight), truediv) for weight in weights]
+
+
+def fit_at(fits, label, y, z, weight):
+    """the fit with a weight, whether both are right, and what the place shows beside its piece"""
+    g = fit_with(fits.units, label, y, z, weight)
+    near = all(abs(g - exact) <= fits.distance for exact in exact_fits(fits, label, y, z))
+    if not is_weighed(fits.units, label):
+        return g, near and weight == 0, ""
+    q, shown = exponent(fits.units, label, y, z), ""
     if abs(q) < 4 * UNITS:
-        place += " q below 0" if q < 0 else " q above 0"
-    return place, g + weight * bicubic(TEMPERATURE, label, 5, y, z) // UNITS, is_weight(q, weight)
+        shown = " q below 0" if q < 0 else " q above 0"
+    if [abs(q)] == fits.units.get((label, "KEPT")):
+        shown = " kept"
+    return g, near and is_weight(q, weight, is_minus(fits, label)), shown
+
+
+def temperature_fit(y, z, weight):
+    """the place of a fit, its G with a weight, and whether both are right"""
+    piece = piece_of(y, z)
+    g, right, shown = fit_at(TEMPERATURE, LABELS[band(y)][piece], y, z, weight)
+    return f"T {band(y)} piece {piece + 1}{shown}", g, right
 
 
 def is_beyond(g):
@@ -215,11 +268,11 @@ def is_raised(g, t):
 
 
 def unjoined(a):
-    place, g, weighed = fit_at(a.y, a.z, a.low.weight)
+    place, g, fitted = temperature_fit(a.y, a.z, a.low.weight)
     low = Edge(g, a.low.weight)
     if is_beyond(g):
-        return weighed and carries(a, 13, low=low), ["T fit " + ("below" if g < 0 else "above")]
-    return weighed and is_raised(g, a.value) and carries(a, value=a.value, low=low), [place]
+        return fitted and carries(a, 13, low=low), ["T fit " + ("below" if g < 0 else "above")]
+    return fitted and is_raised(g, a.value) and carries(a, value=a.value, low=low), [place]
 
 
 def by_exponents(strip, fits, y):
@@ -228,21 +281,21 @@ def by_exponents(strip, fits, y):
 
 
 def joined(a, strip):
-    judged = [fit_at(y, a.z, edge.weight) for y, edge in zip(strip, (a.low, a.high))]
+    judged = [temperature_fit(y, a.z, edge.weight) for y, edge in zip(strip, (a.low, a.high))]
     fits = [g for _, g, _ in judged]
-    weighed = all(right for _, _, right in judged)
+    fitted = all(right for _, _, right in judged)
     low, high = (Edge(g, edge.weight, edge.value) for g, edge in zip(fits, (a.low, a.high)))
     pieces = " ".join(str(piece_of(y, a.z) + 1) for y in strip)
     inside = [f"T join at {strip[0]}: pieces {pieces}"]
     beyond = [which for which, g in zip(("low", "high"), fits) if is_beyond(g)]
     if beyond:
         unvalued = low.value == high.value == 0
-        return weighed and unvalued and carries(a, 13, low=low, high=high), [f"T join beyond: {' '.join(beyond)}"]
+        return fitted and unvalued and carries(a, 13, low=low, high=high), [f"T join beyond: {' '.join(beyond)}"]
     raised = is_raised(low.fit, low.value) and is_raised(high.fit, high.value)
     value = straight(strip, low.value, high.value, a.y)
     if abs(by_exponents(strip, fits, a.y) - value) > 10**6:
         inside.append(f"T join at {strip[0]}: far from the line between exponents")
-    return weighed and raised and carries(a, value=value, low=low, high=high), inside
+    return fitted and raised and carries(a, value=value, low=low, high=high), inside
 
 
 def temperature(a):
@@ -274,52 +327,16 @@ def entropy(a):
 
 
 def gamma_piece(y, z):
-    return sum(z > GAMMA[label, "END"][0] // 10**4 for label in GAMMA_LABELS[band(y)][:-1])
+    return sum(z > GAMMA.units[label, "END"][0] // 10**4 for label in GAMMA_LABELS[band(y)][:-1])
 
 
 def gamma_limit(name):
     """a Z above it is warned about"""
-    return GAMMA[GAMMA_LABELS[name][-1], "LIMIT"][0] // 10**4
-
-
-def exact_gammas(label, y, z):
-    """with nothing rounded: for 128 terms, and for all"""
-    if (label, "GAMMA") in PRINTED_GAMMA:
-        return PRINTED_GAMMA[label, "GAMMA"]
-    exact = lambda n, m: n * m / 10**6
-    g = bicubic(PRINTED_GAMMA, label, 1, y, z, exact)
-    if (label, "GAS5") not in PRINTED_GAMMA:
-        return [g]
-    second = bicubic(PRINTED_GAMMA, label, 5, y, z, exact)
-    weights = ideals(exponent(PRINTED_GAMMA, label, y, z, exact), is_minus(label))
-    return [g + second * Fraction(weight) for weight in weights]
-
-
-def is_minus(label):
-    """the exponential is taken from 1"""
-    return PRINTED_GAMMA.get((label, "SIGN")) == ["-"]
+    return GAMMA.units[GAMMA_LABELS[name][-1], "LIMIT"][0] // 10**4
 
 
 def is_near_zero(label, y, z):
-    return is_minus(label) and abs(exponent(GAMMA, label, y, z)) < NEAREST_EXPONENT
-
-
-def gamma_at(label, y, z, weight):
-    """gamma with a weight, whether both are right, and what the place shows beside its piece"""
-    shown, weighed = "", weight == 0
-    if (label, "GAMMA") in GAMMA:
-        (g,) = GAMMA[label, "GAMMA"]
-    else:
-        g = bicubic(GAMMA, label, 1, y, z)
-    if (label, "GAS5") in GAMMA:
-        q = exponent(GAMMA, label, y, z)
-        g += weight * bicubic(GAMMA, label, 5, y, z) // UNITS
-        weighed = is_weight(q, weight, is_minus(label))
-        if abs(q) < 4 * UNITS:
-            shown = " q below 0" if q < 0 else " q above 0"
-        if [abs(q)] == GAMMA.get((label, "KEPT")):
-            shown = " kept"
-    return g, weighed and all(abs(g - exact) <= GAMMA_DISTANCE for exact in exact_gammas(label, y, z)), shown
+    return is_minus(GAMMA, label) and abs(exponent(GAMMA.units, label, y, z)) < NEAREST_EXPONENT
 
 
 def pressure_by(a, g):
@@ -339,9 +356,9 @@ def pressure(a):
         return logs and carries(a, 17), [f"{place} warned" + (f": {' '.join(warned)}, own {band(a.y)}" if strip else "")]
     if any(is_near_zero(label, y, a.z) for label, y in zip(labels, ys)):
         return logs and carries(a, 17), ["P near zero"]
-    judged = [gamma_at(label, y, a.z, edge.weight) for label, y, edge in zip(labels, ys, (a.low, a.high))]
+    judged = [fit_at(GAMMA, label, y, a.z, edge.weight) for label, y, edge in zip(labels, ys, (a.low, a.high))]
     edges = [Edge(g, edge.weight) for (g, *_), edge in zip(judged, (a.low, a.high))]
-    right = logs and all(weighed for _, weighed, _ in judged)
+    right = logs and all(fitted for _, fitted, _ in judged)
     if any(not LEAST_GAMMA <= edge.fit <= MOST_GAMMA for edge in edges):
         sides = ["below" if edge.fit < LEAST_GAMMA else "above" if edge.fit > MOST_GAMMA else "inside" for edge in edges]
         return right and carries(a, 17, 0, *edges), [f"{place} gamma {' '.join(sides)}"]
@@ -366,6 +383,31 @@ def judge(a):
     return {1: temperature, 2: entropy, 3: pressure}[a.kind](a)
 
 
+def state(case, line):
+    """whether a state's line is right, and the places that it visits"""
+    a = answer(line)
+    right, here = judge(a)
+    here += [f"{a.letter} y {a.y}", f"{a.letter} {band(a.y)} z {a.z}", f"{a.letter} fit {a.low.fit}"]
+    here += [f"{a.letter} join at {strip[0]} z {a.z}" for strip in STRIPS if strip == strip_of(a.y)]
+    return right and case == f"state {a.kind} {a.first} {a.second}", here
+
+
+def is_asked(size, minus):
+    """whether a walk shows the weights at an exponent of this size"""
+    return LEAST_MINUS * minus <= size <= LARGEST_EXPONENT
+
+
+def walk(case, line):
+    """whether every weight of a walk is right, and the exponents that it visits and passes over"""
+    what, first, step, count, label = case.split(" ", 4)
+    minus, sizes = what == "minus", [int(first) + i * int(step) for i in range(int(count))]
+    qs = [q for size in sizes if is_asked(size, minus) for q in (size, -size)]
+    weights = [int(word) for word in line.removeprefix(label + ":").split()]
+    right = len(weights) == len(qs) and all(is_weight(q, w, minus) for q, w in zip(qs, weights))
+    over = [f"{what} over {size}" for size in sizes if not is_asked(size, minus)]
+    return right and line == " ".join([label + ":", *map(str, weights)]), [f"{what} at {q}" for q in qs] + over
+
+
 # ---- the places that some line must visit
 
 
@@ -381,15 +423,15 @@ def pairs(strip):
 
 def gamma_suffixes(label):
     """what the lines of a piece must show: an exponent far from 0, near it on either side, kept within its bound"""
-    if (label, "GAS5") not in GAMMA:
+    if not is_weighed(GAMMA.units, label):
         return [""]
-    if is_minus(label):
+    if is_minus(GAMMA, label):
         return ["", " q above 0"]
-    return ["", " q below 0", " q above 0"] + [" kept"] * ((label, "KEPT") in GAMMA)
+    return ["", " q below 0", " q above 0"] + [" kept"] * ((label, "KEPT") in GAMMA.units)
 
 
 def gamma_ends(name):
-    return [GAMMA[label, "END"][0] // 10**4 for label in GAMMA_LABELS[name][:-1]]
+    return [GAMMA.units[label, "END"][0] // 10**4 for label in GAMMA_LABELS[name][:-1]]
 
 
 def pressure_places():
@@ -418,6 +460,13 @@ def join_places():
     yield from (f"T y {y}" for y in (-4_490_000, -510_000))
 
 
+def walk_places():
+    yield f"minus over {LEAST_MINUS - 1}"
+    for what, least in (("plus", 0), ("minus", LEAST_MINUS)):
+        sizes = (least, least + 1, 24 * UNITS - 1, 24 * UNITS, 24 * UNITS + 1, LARGEST_EXPONENT)
+        yield from (f"{what} at {q}" for size in sizes for q in (size, -size))
+
+
 def places():
     yield from ("6", "T fit above")
     for kind, (least, most) in FIRST.items():
@@ -427,6 +476,7 @@ def places():
     yield from (f"T fit {g}" for g in both_sides(HIGHEST_FIT))
     yield from join_places()
     yield from pressure_places()
+    yield from walk_places()
     for name in BANDS:
         yield f"T {name} piece 1"
         yield from (f"T {name} piece {k}{q}" for k in range(2, len(LABELS[name]) + 1) for q in ("", " q below 0", " q above 0"))
@@ -443,21 +493,21 @@ def main():
     lines = (VECTORS / "stdout").read_text().splitlines()
     if len(cases) != len(lines):
         sys.exit(f"{len(cases)} cases and {len(lines)} answers")
-    visited, count = set(), 0
+    judges = {"state": state, "plus": walk, "minus": walk}
+    visited, counts = set(), dict.fromkeys(judges, 0)
     for case, line in zip(cases, lines):
-        if not case.startswith("state "):
+        what = case.split(" ")[0]
+        if what not in judges:
             continue
-        a = answer(line)
-        right, here = judge(a)
-        if case != f"state {a.kind} {a.first} {a.second}" or not right:
+        right, here = judges[what](case, line)
+        if not right:
             sys.exit(f"{here}: {case}: {line}")
-        visited |= {*here, f"{a.letter} y {a.y}", f"{a.letter} {band(a.y)} z {a.z}", f"{a.letter} fit {a.low.fit}"}
-        visited |= {f"{a.letter} join at {strip[0]} z {a.z}" for strip in STRIPS if strip == strip_of(a.y)}
-        count += 1
+        visited |= {*here}
+        counts[what] += 1
     missing = [place for place in places() if place not in visited]
     if missing:
         sys.exit(f"no line visits {missing}")
-    print(f"{count} states confirmed")
+    print(", ".join(f"{count} {what}" for what, count in counts.items()), "confirmed")
 
 
 main()

@@ -19,11 +19,16 @@ static void judge_perfect(uint64_t pressure, uint64_t density, const eas_answer 
     require(a->carries == (EAS_CARRIES_LOGS | EAS_CARRIES_X | EAS_CARRIES_VALUE), "what a perfect gas carries");
 }
 
+/* A weight is within 2 of the ideal one at the rounded exponent. Three of the exponent's products lose less than a unit
+ * of 10^-10 each, the fourth, which Z multiplies, less than 3.7; the ideal weight moves by at most half of these 6.7.
+ * Together that is below 5.4, and the doubles' own exponents are off by less than a hundredth. */
+static const double WEIGHT_DISTANCE = 5.5;
+
 /* A fit at a place, against the doubles there. */
 static void judge_fit(const eas_edge *edge, tgas_parts parts, double fit, double distance) {
     double power = parts.weighted ? exp(parts.exponent) : 0;
     double weight = parts.weighted ? 1e10 / (parts.weighted < 0 ? 1 - power : 1 + power) : 0;
-    require(fabs((double)edge->weight - weight) < 20, "a fit's weight is near its ideal");
+    require(fabs((double)edge->weight - weight) < WEIGHT_DISTANCE, "a fit's weight is near its ideal");
     require(parts.weighted < 0 || (edge->weight >= 0 && edge->weight <= 10000000000),
             "a fit's weight lies between none and all");
     require(fabs((double)edge->fit - 1e10 * fit) < distance, "a fit is near that of the doubles");
@@ -40,7 +45,7 @@ typedef struct {
 static int judge_exponent(const eas_edge *edge, int64_t at, int64_t z) {
     double y = (double)at / 1e6;
     tgas_parts parts = tgas1_parts(tgas_band(y), y, (double)z / 1e6);
-    judge_fit(edge, parts, tgas1_fit(parts), 10000);
+    judge_fit(edge, parts, tgas1_fit(parts), 4000);
     return edge->fit < 0 || edge->fit > MOST_FIT;
 }
 

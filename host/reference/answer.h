@@ -1,4 +1,4 @@
-/* Judges a whole answer for a state: allowed by document 01 and request 3, or not. */
+/* Judges a whole answer for a state: allowed by document 01 and requests 3 and 4, or not. */
 #ifndef REFERENCE_ANSWER_H
 #define REFERENCE_ANSWER_H
 

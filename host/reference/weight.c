@@ -1,19 +1,19 @@
 #include "weight.h"
 
-enum { TERMS_FIRST = 128, TERMS_LATER = 400, TOLERANCE = 10 };
+enum { FEWEST_TERMS = 128, MOST_TERMS = 400 };
 static const int64_t ONE = 10000000000;
 
-void weights_init(ideal_weights *w) {
+void bounds_init(term_bounds *b) {
     for (int i = 0; i < TERM_COUNTS; i++) {
-        mpfr_init2(w->low[i], FIRST_WEIGHT_PRECISION);
-        mpfr_init2(w->high[i], FIRST_WEIGHT_PRECISION);
+        mpfr_init2(b->low[i], FIRST_WEIGHT_PRECISION);
+        mpfr_init2(b->high[i], FIRST_WEIGHT_PRECISION);
     }
 }
 
-void weights_clear(ideal_weights *w) {
+void bounds_clear(term_bounds *b) {
     for (int i = 0; i < TERM_COUNTS; i++) {
-        mpfr_clear(w->low[i]);
-        mpfr_clear(w->high[i]);
+        mpfr_clear(b->low[i]);
+        mpfr_clear(b->high[i]);
     }
 }
 
@@ -27,15 +27,15 @@ static void sum_series(mpfr_t first, mpfr_t later, const mpfr_t u, mpfr_rnd_t ro
     mpfr_init2(term, precision);
     mpfr_set_ui(term, 1, MPFR_RNDN);
     mpfr_set_ui(later, 1, MPFR_RNDN);
-    for (unsigned long j = 1; j <= TERMS_LATER; j++) {
+    for (unsigned long j = 1; j <= MOST_TERMS; j++) {
         mpfr_mul(term, term, u, rounding);
         mpfr_div_ui(term, term, j, rounding);
         mpfr_add(later, later, term, rounding);
-        if (j <= TERMS_FIRST)
+        if (j <= FEWEST_TERMS)
             mpfr_set(first, later, rounding);
         if (mpfr_zero_p(term))
             break;
-        if (j < TERMS_FIRST || j < twice)
+        if (j < FEWEST_TERMS || j < twice)
             continue;
         if (mpfr_get_exp(term) < mpfr_get_exp(later) - precision - 8) {
             if (rounding == MPFR_RNDU)
@@ -88,39 +88,33 @@ static void set_size(mpfr_t u, wide q, unsigned decimals, mpfr_rnd_t rounding) {
     mpz_clears(size, scale, NULL);
 }
 
-/* Quick bounds of the sums. Up to u = 24 the rest of the series after 128 terms is below 2·24^129/129! < 2^-100. From
- * there on every sum is at least S(24) with 128 terms, above 26,000,000,000, and nothing is said about how large. */
+/* Quick bounds of the sums. No sum is above the exponential. Up to u = 24 the rest of the series after 128 terms is
+ * below 2·24^129/129! < 2^-100; from there on every sum is at least S(24) with 128 terms, above 26,000,000,000. */
 static void quick_sums(mpfr_t low[TERM_COUNTS], mpfr_t high[TERM_COUNTS], const mpfr_t u_low, const mpfr_t u_high) {
-    bool small = mpfr_cmp_ui(u_high, 24) <= 0;
-    for (int i = 0; i < TERM_COUNTS; i++) {
-        mpfr_set_inf(high[i], 1);
-        mpfr_set_ui(low[i], 1, MPFR_RNDN);
-        if (!small && mpfr_cmp_ui(u_low, 24) >= 0)
-            mpfr_set_ui(low[i], 26000000000, MPFR_RNDN);
-    }
-    if (!small)
-        return;
+    bool small = mpfr_cmp_ui(u_high, 24) <= 0, large = mpfr_cmp_ui(u_low, 24) >= 0;
     mpfr_t rest;
     mpfr_init2(rest, 64);
     mpfr_set_ui_2exp(rest, 1, -100, MPFR_RNDN);
-    mpfr_exp(low[2], u_low, MPFR_RNDD);
-    mpfr_exp(high[2], u_high, MPFR_RNDU);
-    for (int i = 0; i < 2; i++) {
-        mpfr_sub(low[i], low[2], rest, MPFR_RNDD);
-        mpfr_set(high[i], high[2], MPFR_RNDU);
+    mpfr_exp(low[WITHOUT_END], u_low, MPFR_RNDD);
+    mpfr_exp(high[WITHOUT_END], u_high, MPFR_RNDU);
+    for (int i = 0; i < WITHOUT_END; i++) {
+        mpfr_set_ui(low[i], large ? 26000000000 : 1, MPFR_RNDN);
+        if (small)
+            mpfr_sub(low[i], low[WITHOUT_END], rest, MPFR_RNDD);
+        mpfr_set(high[i], high[WITHOUT_END], MPFR_RNDU);
     }
     mpfr_clear(rest);
 }
 
 /* The sums term by term, and the exponential as their limit. */
 static void series_sums(mpfr_t low[TERM_COUNTS], mpfr_t high[TERM_COUNTS], const mpfr_t u_low, const mpfr_t u_high) {
-    sum_series(low[0], low[1], u_low, MPFR_RNDD);
-    mpfr_exp(low[2], u_low, MPFR_RNDD);
-    sum_series(high[0], high[1], u_high, MPFR_RNDU);
-    mpfr_exp(high[2], u_high, MPFR_RNDU);
+    sum_series(low[TERMS_128], low[TERMS_400], u_low, MPFR_RNDD);
+    mpfr_exp(low[WITHOUT_END], u_low, MPFR_RNDD);
+    sum_series(high[TERMS_128], high[TERMS_400], u_high, MPFR_RNDU);
+    mpfr_exp(high[WITHOUT_END], u_high, MPFR_RNDU);
 }
 
-void weights_of(ideal_weights *w, transition t, mpfr_prec_t precision) {
+void weights_of(term_bounds *w, transition t, mpfr_prec_t precision) {
     mpfr_t u_low, u_high, low[TERM_COUNTS], high[TERM_COUNTS];
     mpfr_inits2(precision, u_low, u_high, (mpfr_ptr)0);
     for (int i = 0; i < TERM_COUNTS; i++) {
@@ -143,29 +137,34 @@ void weights_of(ideal_weights *w, transition t, mpfr_prec_t precision) {
     mpfr_clears(u_low, u_high, (mpfr_ptr)0);
 }
 
-/* 1: every ideal weight is within the tolerance of this one; -1: one is not; 0: open at this precision. */
-static int within_tolerance(const ideal_weights *w, int64_t weight) {
-    int verdict = 1;
+/* The weights within a tolerance of numbers of which the largest is one of `above`, the least one of `below`. */
+static weight_range within_of(mpfr_t above[TERM_COUNTS], mpfr_t below[TERM_COUNTS], int64_t tolerance, bool minus) {
+    weight_range range = {minus ? INT64_MIN : 0, minus ? INT64_MAX : ONE};
     for (int i = 0; i < TERM_COUNTS; i++) {
-        if (mpfr_cmp_si(w->high[i], weight - TOLERANCE) < 0 || mpfr_cmp_si(w->low[i], weight + TOLERANCE) > 0)
-            return -1;
-        if (mpfr_cmp_si(w->low[i], weight - TOLERANCE) < 0 || mpfr_cmp_si(w->high[i], weight + TOLERANCE) > 0)
-            verdict = 0;
+        int64_t least = mpfr_get_si(above[i], MPFR_RNDU) - tolerance;
+        int64_t most = mpfr_get_si(below[i], MPFR_RNDD) + tolerance;
+        range.least = least > range.least ? least : range.least;
+        range.most = most < range.most ? most : range.most;
     }
-    return verdict;
+    return range;
+}
+
+weight_range weights_within(transition t, int64_t tolerance) {
+    weight_range range = {0};
+    bool open = true;
+    term_bounds w;
+    bounds_init(&w);
+    for (mpfr_prec_t p = FIRST_WEIGHT_PRECISION; open && p <= LAST_WEIGHT_PRECISION; p *= 4) {
+        weights_of(&w, t, p);
+        weight_range sure = within_of(w.high, w.low, tolerance, t.minus);
+        range = within_of(w.low, w.high, tolerance, t.minus);
+        open = sure.least != range.least || sure.most != range.most;
+    }
+    bounds_clear(&w);
+    return range;
 }
 
 bool weight_allowed(int64_t weight, transition t) {
-    int64_t least = t.minus ? -21 * ONE : 0, most = t.minus ? 22 * ONE : ONE;
-    if (weight < least || weight > most)
-        return false;
-    ideal_weights w;
-    int verdict = 0;
-    weights_init(&w);
-    for (mpfr_prec_t p = FIRST_WEIGHT_PRECISION; verdict == 0 && p <= LAST_WEIGHT_PRECISION; p *= 4) {
-        weights_of(&w, t, p);
-        verdict = within_tolerance(&w, weight);
-    }
-    weights_clear(&w);
-    return verdict >= 0;
+    weight_range allowed = weights_within(t, WEIGHT_TOLERANCE);
+    return allowed.least <= weight && weight <= allowed.most;
 }

@@ -9,17 +9,19 @@
 
 #include "wide.h"
 
-/* Numbers of series terms that are looked at: 128, 400 and without end. The ideal weight moves one way as the terms
- * grow, so that a bound which holds at 128 and without end holds at every number between. */
-enum { TERM_COUNTS = 3, EXPONENT_DECIMALS = 10 };
+/* Numbers of series terms that are looked at. The ideal weight moves one way as the terms grow, so that a bound which
+ * holds at 128 and without end holds at every number between. */
+enum { TERMS_128, TERMS_400, WITHOUT_END, TERM_COUNTS };
 
-/* Bounds of 10^10 times the ideal weight for each number of terms. */
+enum { EXPONENT_DECIMALS = 10 };
+
+/* Bounds of what depends on the number of terms. */
 typedef struct {
     mpfr_t low[TERM_COUNTS], high[TERM_COUNTS];
-} ideal_weights;
+} term_bounds;
 
-void weights_init(ideal_weights *w);
-void weights_clear(ideal_weights *w);
+void bounds_init(term_bounds *b);
+void bounds_clear(term_bounds *b);
 
 /* An exponent of q / 10^decimals in a plus or minus transition. */
 typedef struct {
@@ -28,17 +30,26 @@ typedef struct {
     unsigned decimals;
 } transition;
 
-/* At the first precision the bounds come from the exponential and a bound of the series' rest; at every other one from
- * the series itself, term by term. A minus transition's exponent is not 0. */
-void weights_of(ideal_weights *w, transition t, mpfr_prec_t precision);
+/* 10^10 times the ideal weight. At the first precision the bounds come from the exponential and a bound of the series'
+ * rest; at every other one from the series itself, term by term. A minus transition's exponent is not 0. */
+void weights_of(term_bounds *w, transition t, mpfr_prec_t precision);
 
 /* Working precisions, each four times the one before, tried in order until a comparison is decided. At the last one the
  * bounds are closer together than two different values can be: a weight with 400 terms is a fraction whose denominator
  * has under 40,000 bits. What is still open there is an equality. */
 enum { FIRST_WEIGHT_PRECISION = 128, LAST_WEIGHT_PRECISION = 131072 };
 
-/* Free answer two, for every number of terms from 128 up. The weight of a minus transition may be negative or above
- * one; from an exponent of 0.05 on it is below 21 in size. */
+/* Whole weights. */
+typedef struct {
+    int64_t least, most;
+} weight_range;
+
+/* Those that are within a tolerance of the ideal weight for every number of terms from 128 up. A plus transition's are
+ * from 0 to 10^10; a minus transition's may be negative or above one, and its exponent is 0.05 or more in size. */
+weight_range weights_within(transition t, int64_t tolerance);
+
+/* Free answer two, by the tolerance of request 4. */
+enum { WEIGHT_TOLERANCE = 2 };
 bool weight_allowed(int64_t weight, transition t);
 
 #endif

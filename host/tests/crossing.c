@@ -17,9 +17,9 @@
 #include <math.h>
 #include <stdio.h>
 
+#include "carried.h"
 #include "reference/answer.h"
 #include "reference/pressure.h"
-#include "states.h"
 #include "tally.h"
 
 enum { OUTSIDE = 300, WIDEST = 50000, MOST_WALKS = MOST_PAIRS + 2 };
@@ -47,28 +47,6 @@ static const eas_answer *at(int64_t y) {
     return &walked.answers[y - walked.from];
 }
 
-/* standard·10^(millionths/1,000,000), to the nearest whole number. */
-static uint64_t scaled(uint64_t standard, long double millionths) {
-    return (uint64_t)llroundl((long double)standard * powl(10.0L, millionths / 1000000.0L));
-}
-
-/* A state with these carried logarithms: free answer one leaves the library a choice, so that both values are tried up
- * to a millionth to either side. */
-static bool find_state(int64_t y, int64_t z, air_state *state, eas_answer *found) {
-    static const long double off[] = {0.0L, 0.5L, -0.5L, 0.25L, -0.25L, 0.75L, -0.75L};
-    const int count = sizeof off / sizeof off[0];
-    bool by_pressure = walked.of == TEMPERATURE;
-    for (int i = 0; i < count * count; i++) {
-        long double first = (long double)(by_pressure ? y + z : z) + off[i / count];
-        *state = (air_state){fitted_kind(walked.of), scaled(by_pressure ? P0 : E0, first),
-                             scaled(D0, (long double)y + off[i % count])};
-        *found = eas_evaluate(state->kind, state->first, state->second);
-        if (found->carries & EAS_CARRIES_LOGS && found->y == y && found->z == z)
-            return true;
-    }
-    return false;
-}
-
 /* Walks through a strip; true where every Y has its state and none is refused. */
 static bool take_walk(fitted_property of, const density_strip *strip, int64_t z) {
     walked.of = of;
@@ -78,7 +56,7 @@ static bool take_walk(fitted_property of, const density_strip *strip, int64_t z)
     walked.count = (int)(strip->upper + OUTSIDE - walked.from) + 1;
     for (int i = 0; i < walked.count; i++) {
         tally_case("Y from below", (uint64_t)i);
-        bool found = find_state(walked.from + i, z, &walked.states[i], &walked.answers[i]);
+        bool found = find_state(of, walked.from + i, z, &walked.states[i], &walked.answers[i]);
         if (!tally_check(found && walked.answers[i].number == 0, "no accepted state at Y %" PRId64 ", Z %" PRId64,
                          walked.from + i, z))
             return false;

@@ -4,25 +4,28 @@
  * carried logarithms, so that a state next to an edge is compared on one side of it.
  *
  * Why a temperature's logarithm may differ. Free answer three puts T less than 2 millionths from G, and demand 3 puts G
- * within 1 millionth of the exact fit at the carried Y and Z. X and Y are each less than 1 millionth from the true
- * logarithms. So the difference is below 3 + |F_X| + |F_Y| millionths, F_X and F_Y being the fit's slopes in X and Y,
- * and the relative difference of T is below that times ln 10. In the same way an entropy differs by less than
- * 3 units of 0.0001 and one millionth of each slope. Every state is held to the bound at its own slopes, with one part
- * in fifty for their change and the doubles' rounding.
+ * within 0.4 millionths, 4,000 units of 10^-10, of the exact fit at the carried Y and Z. X and Y are each less than
+ * 1 millionth from the true logarithms. So the difference is below 2.4 + |F_X| + |F_Y| millionths, F_X and F_Y being
+ * the fit's slopes in X and Y, and the relative difference of T is below that times ln 10. In the same way an entropy
+ * differs by less than 3 units of 0.0001 and one millionth of each slope. Every state is held to the bound at its own
+ * slopes, with one part in fifty for their change and the doubles' rounding.
  *
  * In a strip each edge's temperature obeys the first two sentences at the edge's Y, which is no logarithm that was
  * taken, and the carried Z. The line is a mean of the two, so that it keeps their relative difference, and it is
  * rounded down by less than a microkelvin. With F the logarithm of the joined temperature over X and Y the bound is the
  * same, and a microkelvin more.
  *
- * A pressure's gamma is within 100,000 units of 10^-10 of the exact fit at the carried logarithms, or at an edge of a
- * strip: there the doubles are compared with it directly. The pressure itself is (gamma - 1) E R by the doubles' own
- * logarithms, so that gamma may differ by 10^-5 and one millionth of each of its slopes, and the pressure by that part
- * of gamma - 1 beyond a micropascal, or two in a strip. There E and R are the state's own at both edges. TGAS1 itself
- * moves the density to the edge, R = 10**Y R0, and joins pressures of two densities; by design the library does not.
+ * A pressure's gamma is within 100,000 units of the exact fit. The pressure itself is (gamma - 1) E R by the doubles'
+ * own logarithms, so that gamma may differ by 10^-5 and one millionth of each of its slopes, and the pressure by that
+ * part of gamma - 1 beyond a micropascal, or two in a strip. There E and R are the state's own at both edges. TGAS1
+ * itself moves the density to the edge, R = 10**Y R0, and joins pressures of two densities; by design the library does
+ * not.
+ *
+ * Every carried fit, G or gamma, is also compared with the doubles' at the carried logarithms, in a strip at each edge:
+ * there they differ by what demand 3 allows; the doubles' rounding is far below a unit.
  *
  * The constants are above the bound of every accepted state: a temperature's slopes come to 2.6 at most, but to 11 at
- * label 430, where the bound reaches 3.3e-5, and to 22 in the strip of the upper density edge, where it reaches 5.9e-5
+ * label 430, where the bound reaches 3.2e-5, and to 22 in the strip of the upper density edge, where it reaches 5.7e-5
  * next to refusal 13; the bound of an entropy is largest in a join, 3.8e-6. The output lists the largest bound met. */
 #include <inttypes.h>
 #include <math.h>
@@ -40,8 +43,9 @@ enum { DOUBLES_PART = 44 };
 enum { PERFECT_GROUP, ENTROPY_GROUP, FITTED_GROUP = ENTROPY_GROUP + BANDS + 2, FITTED_GROUPS = 1 + BANDS * PIECES };
 enum { GROUPS = FITTED_GROUP + FITTED * FITTED_GROUPS };
 
-static const double TEMPERATURE_BOUND = 4e-5, JOINED_BOUND = 6e-5, ENTROPY_BOUND = 5e-6;
-static const double GAMMA_DISTANCE = 1e-5, PRESSURE_BOUND = 2e-4;
+static const double TEMPERATURE_BOUND = 3.3e-5, JOINED_BOUND = 5.8e-5, ENTROPY_BOUND = 5e-6;
+static const double PRESSURE_BOUND = 2e-4;
+static const double FIT_DISTANCE[FITTED] = {[TEMPERATURE] = 4e-7, [PRESSURE] = 1e-5};
 static const double LN_TEN = 2.302585092994046, SLACK = 1.02, STEP = 1e-7;
 
 typedef struct {
@@ -60,7 +64,7 @@ static double_piece pieces[FITTED][BANDS][PIECES];
 static double entropy_rows[BANDS][BICUBIC_TERMS];
 static group groups[GROUPS];
 static uint64_t pressures;
-static double farthest_gamma;
+static double farthest[FITTED];
 
 /* A numeral as a double; 0 where there is none. */
 static double numeral(const char *text) {
@@ -115,9 +119,14 @@ static double straight(const density_strip *strip, double y, double low, double 
     return low + (high - low) / (upper - lower) * (y - lower);
 }
 
-/* T of TGAS1 above the perfect gas, or GAMM, at (y, z), by the piece that whole logarithms choose */
+/* TNON or GAMM at (y, z), by the piece that whole logarithms choose */
+static double piece_fit(fitted_property of, int64_t chosen_y, int64_t chosen_z, double y, double z) {
+    return fit_of(&pieces[of][band_of(chosen_y)][piece_place(of, chosen_y, chosen_z)], y, z);
+}
+
+/* T of TGAS1 above the perfect gas, or GAMM */
 static double piece_value(fitted_property of, int64_t chosen_y, int64_t chosen_z, double y, double z) {
-    double fit = fit_of(&pieces[of][band_of(chosen_y)][piece_place(of, chosen_y, chosen_z)], y, z);
+    double fit = piece_fit(of, chosen_y, chosen_z, y, z);
     return of == TEMPERATURE ? 273.15 * pow(10.0, fit) : fit;
 }
 
@@ -181,16 +190,30 @@ static void note_fit(fitted_property of, const eas_answer *a, double difference,
              difference, bound, steep);
 }
 
-static void compare_fit(const air_state *s, const eas_answer *a) {
-    density_strip strip;
+/* Whether an answer is joined; its carried fits are compared with the doubles' at their places. */
+static bool compare_carried(fitted_property of, const air_state *s, const eas_answer *a) {
+    density_strip strip = {a->y, a->y};
     bool joined = strip_of(a->y, &strip);
+    for (int i = 0; i < 1 + joined; i++) {
+        int64_t y = i == 0 ? strip.lower : strip.upper;
+        double fit = piece_fit(of, y, a->z, (double)y * 1e-6, (double)a->z * 1e-6);
+        double difference = fabs((double)(i == 0 ? a->low : a->high).fit * 1e-10 - fit);
+        farthest[of] = fmax(farthest[of], difference);
+        if (!tally_check(difference <= FIT_DISTANCE[of], "fit off by %.3g at Y %" PRId64, difference, y))
+            show(s, a, fit);
+    }
+    return joined;
+}
+
+static void compare_temperature(const air_state *s, const eas_answer *a) {
+    bool joined = compare_carried(TEMPERATURE, s, a);
     double y = log10((double)s->second / (double)D0), z = log10((double)s->first / (double)P0) - y;
     double got = (double)a->value * 1e-6, kelvin = joined_value(TEMPERATURE, a, y, z);
     double per = 2 * STEP * LN_TEN * kelvin;
     double by_x = joined_value(TEMPERATURE, a, y, z + STEP) - joined_value(TEMPERATURE, a, y, z - STEP);
     double by_y = joined_value(TEMPERATURE, a, y + STEP, z - STEP) - joined_value(TEMPERATURE, a, y - STEP, z + STEP);
     double steep = (fabs(by_x) + fabs(by_y)) / per;
-    double bound = SLACK * LN_TEN * 1e-6 * (3 + steep) + (joined ? 1e-6 / kelvin : 0);
+    double bound = SLACK * LN_TEN * (2e-6 + FIT_DISTANCE[TEMPERATURE] + 1e-6 * steep) + (joined ? 1e-6 / kelvin : 0);
     double difference = fabs(got - kelvin) / kelvin;
     note_fit(TEMPERATURE, a, difference, bound, steep);
     if (!tally_check(difference <= bound && bound <= (joined ? JOINED_BOUND : TEMPERATURE_BOUND),
@@ -198,31 +221,19 @@ static void compare_fit(const air_state *s, const eas_answer *a) {
         show(s, a, kelvin);
 }
 
-/* A carried gamma against the doubles' at its place. */
-static void compare_gamma(const air_state *s, const eas_answer *a, int64_t y, const eas_edge *edge) {
-    double gamma = piece_value(PRESSURE, y, a->z, (double)y * 1e-6, (double)a->z * 1e-6);
-    double difference = fabs((double)edge->fit * 1e-10 - gamma);
-    farthest_gamma = fmax(farthest_gamma, difference);
-    if (!tally_check(difference <= GAMMA_DISTANCE, "gamma off by %.3g at Y %" PRId64, difference, y))
-        show(s, a, gamma);
-}
-
 static void compare_pressure(const air_state *s, const eas_answer *a) {
-    density_strip strip = {a->y, a->y};
-    bool joined = strip_of(a->y, &strip);
+    bool joined = compare_carried(PRESSURE, s, a);
     double y = log10((double)s->second / (double)D0), z = log10((double)s->first / (double)E0);
     double gamma = joined_value(PRESSURE, a, y, z), e = (double)s->first * 1e-3, r = (double)s->second * 1e-11;
     double pressure = (gamma - 1) * e * r, got = (double)a->value * 1e-6;
     double by_y = joined_value(PRESSURE, a, y + STEP, z) - joined_value(PRESSURE, a, y - STEP, z);
     double by_z = joined_value(PRESSURE, a, y, z + STEP) - joined_value(PRESSURE, a, y, z - STEP);
     double steep = (fabs(by_y) + fabs(by_z)) / (2 * STEP);
-    double bound = SLACK * (GAMMA_DISTANCE + 1e-6 * steep) / (gamma - 1), rounding = (joined ? 2e-6 : 1e-6) / pressure;
+    double bound = SLACK * (FIT_DISTANCE[PRESSURE] + 1e-6 * steep) / (gamma - 1);
+    double rounding = (joined ? 2e-6 : 1e-6) / pressure;
     double difference = fmax(fabs(got - pressure) / pressure - rounding, 0);
     pressures++;
     note_fit(PRESSURE, a, difference, bound, steep);
-    compare_gamma(s, a, strip.lower, &a->low);
-    if (joined)
-        compare_gamma(s, a, strip.upper, &a->high);
     if (!tally_check(difference <= bound && bound <= PRESSURE_BOUND, "pressure off by %.3g, bound %.3g", difference,
                      bound))
         show(s, a, pressure);
@@ -266,7 +277,7 @@ static void compare(const air_state *s) {
     else if (a.letter == 'P')
         compare_pressure(s, &a);
     else if (a.z > PERFECT_LIMIT)
-        compare_fit(s, &a);
+        compare_temperature(s, &a);
     else
         compare_perfect(s, &a);
 }
@@ -281,7 +292,7 @@ static bool exists(int index) {
 }
 
 static void print_groups(void) {
-    printf("  relative differences; constants: temperature %.1g, joined %.1g, entropy %.1g, pressure %.1g\n",
+    printf("  relative differences; constants: temperature %.2g, joined %.2g, entropy %.1g, pressure %.1g\n",
            TEMPERATURE_BOUND, JOINED_BOUND, ENTROPY_BOUND, PRESSURE_BOUND);
     printf("  %-26s %9s %12s %14s %10s\n", "piece", "states", "largest", "largest bound", "slopes");
     for (int i = 0; i < GROUPS; i++) {
@@ -290,7 +301,9 @@ static void print_groups(void) {
             continue;
         printf("  %-26s %9" PRIu64 " %12.3g %14.3g %10.3g\n", g->name, g->count, g->largest, g->bound, g->steepest);
     }
-    printf("  gamma at its carried logarithms: off by %.3g at most, %.1g allowed\n", farthest_gamma, GAMMA_DISTANCE);
+    for (int of = 0; of < FITTED; of++)
+        printf("  %s at its carried logarithms: off by %.3g at most, %.1g allowed\n", of == TEMPERATURE ? "G" : "gamma",
+               farthest[of], FIT_DISTANCE[of]);
 }
 
 int main(int count, char **arguments) {

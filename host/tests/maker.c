@@ -14,15 +14,15 @@ static const struct {
     [NO_MISTAKE] = {"nearest choices", "0123"},
     [LOGARITHMS_DOWN] = {"logarithms rounded down", "123"},
     [LOGARITHMS_UP] = {"logarithms rounded up", "123"},
-    [WEIGHT_LOWEST] = {"the weight is 9 less than the nearest", "13"},
-    [WEIGHT_HIGHEST] = {"the weight is 9 more than the nearest", "13"},
+    [WEIGHT_LOWEST] = {"the weight is 1 less than the nearest", "13"},
+    [WEIGHT_HIGHEST] = {"the weight is 1 more than the nearest", "13"},
     [TEMPERATURE_LOWEST] = {"the lowest temperature of free answer three", "1"},
     [TEMPERATURE_HIGHEST] = {"the highest temperature of free answer three", "1"},
     [EDGES_APART] = {"the lowest at a strip's lower edge, the highest above", "1"},
     [LOGARITHMS_TOO_LOW] = {"logarithms one below the lowest", "123"},
     [LOGARITHMS_TOO_HIGH] = {"logarithms one above the highest", "123"},
-    [WEIGHT_TOO_LOW] = {"the weight is 11 less than the nearest", "13"},
-    [WEIGHT_TOO_HIGH] = {"the weight is 11 more than the nearest", "13"},
+    [WEIGHT_TOO_LOW] = {"the weight is 3 less than the nearest", "13"},
+    [WEIGHT_TOO_HIGH] = {"the weight is 3 more than the nearest", "13"},
     [TEMPERATURE_TOO_LOW] = {"the temperature is one below the lowest", "1"},
     [TEMPERATURE_TOO_HIGH] = {"the temperature is one above the highest", "1"},
     [FIT_LIMIT_EXCLUDED] = {"G at its limit is refused", "1"},
@@ -165,13 +165,13 @@ static int64_t weight(wide units, bool minus) {
     int64_t nearest = nearest_by(units, minus);
     switch (made) {
     case WEIGHT_TOO_LOW:
-        return nearest - 11;
+        return nearest - 3;
     case WEIGHT_LOWEST:
-        return nearest < 9 && !minus ? 0 : nearest - 9;
+        return nearest < 1 && !minus ? 0 : nearest - 1;
     case WEIGHT_HIGHEST:
-        return nearest > 9999999991 && !minus ? 10000000000 : nearest + 9;
+        return nearest > 9999999999 && !minus ? 10000000000 : nearest + 1;
     case WEIGHT_TOO_HIGH:
-        return nearest + 11;
+        return nearest + 3;
     default:
         return nearest;
     }

@@ -66,7 +66,7 @@ static void must_reject(air_state s, const eas_answer *answer, const char *chang
         tally_answer("taken", answer);
 }
 
-/* Every field of a right answer changed by itself. A weight may move by 20 within its tolerance, the temperature of a
+/* Every field of a right answer changed by itself. A weight may move by 4 within its tolerance, the temperature of a
  * fit by three millionths of its logarithm, a logarithm by 1 in a refusal, where gamma is constant and where a joined
  * pressure is small, so these take longer steps. A join's own value is fixed by its edges. */
 static void test_changed_fields(air_state s) {
@@ -86,10 +86,10 @@ static void test_changed_fields(air_state s) {
         a[4].z += log_step * step;
         a[5].value += single ? step * kelvin_step : step;
         a[6].low.fit += step;
-        a[7].low.weight += 21 * step;
+        a[7].low.weight += 5 * step;
         a[8].low.value += step * kelvin_step;
         a[9].high.fit += step;
-        a[10].high.weight += 21 * step;
+        a[10].high.weight += 5 * step;
         a[11].high.value += step * kelvin_step;
         static const char *const fields[] = {"number",    "letter",   "x",           "y",
                                              "z",         "value",    "low.fit",     "low.weight",

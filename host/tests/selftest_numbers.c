@@ -1,5 +1,6 @@
 /* Logarithms, weights, fits and demand 3's distances, against whole numbers and fractions. */
 #include <inttypes.h>
+#include <math.h>
 #include <stddef.h>
 
 #include "maker.h"
@@ -193,6 +194,17 @@ static void exact_weight(mpq_t out, transition t, unsigned terms) {
     mpq_clears(term, factor, NULL);
 }
 
+/* The weights within a tolerance, by the exact weight rounded down. */
+static void test_weights_within(transition t, int64_t below, bool is_whole, int64_t tolerance) {
+    weight_range range = weights_within(t, tolerance), right = {below + !is_whole - tolerance, below + tolerance};
+    if (!t.minus && right.least < 0)
+        right.least = 0;
+    if (!t.minus && right.most > 10000000000)
+        right.most = 10000000000;
+    tally_check(range.least == right.least && range.most == right.most, "within %" PRId64 ": %" PRId64 " to %" PRId64,
+                tolerance, range.least, range.most);
+}
+
 /* Free answer two at its ends, by the exact weight for 400 terms. */
 static void test_tolerance(transition t, const mpq_t exact) {
     mpz_t whole;
@@ -200,19 +212,21 @@ static void test_tolerance(transition t, const mpq_t exact) {
     mpz_fdiv_q(whole, mpq_numref(exact), mpq_denref(exact));
     int64_t q = (int64_t)t.q, below = mpz_get_si(whole);
     bool is_whole = mpz_cmp_ui(mpq_denref(exact), 1) == 0;
-    tally_check(weight_allowed(below - 10, t) == is_whole, "10 below, q %" PRId64, q);
-    tally_check(weight_allowed(below - 9, t) == (t.minus || below >= 9), "9 below, q %" PRId64, q);
-    tally_check(weight_allowed(below + 10, t) == (t.minus || below + 10 <= 10000000000), "10 above, q %" PRId64, q);
-    tally_check(!weight_allowed(below + 11, t), "11 above, q %" PRId64, q);
+    tally_check(weight_allowed(below - 2, t) == is_whole, "2 below, q %" PRId64, q);
+    tally_check(weight_allowed(below - 1, t) == (t.minus || below >= 1), "1 below, q %" PRId64, q);
+    tally_check(weight_allowed(below + 2, t) == (t.minus || below + 2 <= 10000000000), "2 above, q %" PRId64, q);
+    tally_check(!weight_allowed(below + 3, t), "3 above, q %" PRId64, q);
+    test_weights_within(t, below, is_whole, 2);
+    test_weights_within(t, below, is_whole, 10);
     mpz_clear(whole);
 }
 
 static void test_weight(bool minus, int64_t q) {
-    static const unsigned terms[] = {128, 400};
+    static const unsigned terms[] = {[TERMS_128] = 128, [TERMS_400] = 400};
     const transition t = {minus, q, EXPONENT_DECIMALS};
-    ideal_weights w;
+    term_bounds w;
     mpq_t exact;
-    weights_init(&w);
+    bounds_init(&w);
     mpq_init(exact);
     for (int i = 0; i < 2; i++) {
         exact_weight(exact, t, terms[i]);
@@ -223,7 +237,7 @@ static void test_weight(bool minus, int64_t q) {
         }
     }
     test_tolerance(t, exact);
-    weights_clear(&w);
+    bounds_clear(&w);
     mpq_clear(exact);
 }
 
@@ -246,28 +260,31 @@ static void test_weights(void) {
     tally_check(!weight_allowed(-1, large) && !weight_allowed(10000000001, small), "outside 0 to 10^10");
 }
 
-/* Demand 3's own bounds, which the stricter rules of an answer would hide, of a fit and its temperature. */
-static void test_fit_claim(int64_t y, int64_t z, int64_t fit, int64_t value) {
+/* Demand 3's own bounds, which the stricter rules of an answer would hide. A fit's distance: by the nearest weight it
+ * is below 200 units; the last fit to either side that is near enough is taken, the next is not. */
+static void test_distance_claim(fitted_property of, int64_t y, int64_t z) {
+    static const double ends[FITTED] = {[TEMPERATURE] = 4000, [PRESSURE] = 100000};
+    int64_t fit = fit_near(of, y, z);
+    double distance = fit_distance(of, y, z, fit);
+    tally_check(fabs(distance) < 200, "a fit by the nearest weight is off by %f", distance);
+    for (int side = -1; side <= 1; side += 2) {
+        int64_t last = (int64_t)floor(ends[of] - side * distance);
+        tally_check(fit_claim(of, y, z, fit + side * last, NULL) == NULL, "fit at %d end", side);
+        tally_check(fit_claim(of, y, z, fit + side * (last + 1), NULL) != NULL, "fit beyond %d end", side);
+    }
+}
+
+/* And the temperature of a fit. */
+static void test_kelvin_claim(int64_t y, int64_t z, int64_t fit, int64_t value) {
     ratio_logarithm kelvin;
     logarithm_init(&kelvin);
     logarithm_of(&kelvin, (uint64_t)value, T0);
     tally_check(fit_claim(TEMPERATURE, y, z, fit, &kelvin) == NULL, "right claim");
-    tally_check(fit_claim(TEMPERATURE, y, z, fit + 12500, &kelvin) != NULL, "fit too high");
-    tally_check(fit_claim(TEMPERATURE, y, z, fit - 12500, &kelvin) != NULL, "fit too low");
     logarithm_of(&kelvin, (uint64_t)(value + value / 100000), T0);
     tally_check(fit_claim(TEMPERATURE, y, z, fit, &kelvin) != NULL, "temperature too high");
     logarithm_of(&kelvin, (uint64_t)(value - value / 100000), T0);
     tally_check(fit_claim(TEMPERATURE, y, z, fit, &kelvin) != NULL, "temperature too low");
     logarithm_clear(&kelvin);
-}
-
-/* A gamma by the nearest weight is less than 300 units from the exact one. */
-static void test_gamma_claim(int64_t y, int64_t z) {
-    int64_t fit = fit_near(PRESSURE, y, z);
-    for (int side = -1; side <= 1; side += 2) {
-        tally_check(fit_claim(PRESSURE, y, z, fit + side * 99700, NULL) == NULL, "gamma at %d end", side);
-        tally_check(fit_claim(PRESSURE, y, z, fit + side * 100300, NULL) != NULL, "gamma beyond %d end", side);
-    }
 }
 
 /* A joined entropy is rounded down three times, at both edges and on the line. */
@@ -288,16 +305,18 @@ static void test_claims(int64_t y) {
         eas_answer a = make_answer(NO_MISTAKE, 1, s.first, s.second);
         if (a.number != 0)
             continue;
-        test_fit_claim(joined ? strip.lower : a.y, a.z, a.low.fit, joined ? a.low.value : a.value);
+        test_kelvin_claim(joined ? strip.lower : a.y, a.z, a.low.fit, joined ? a.low.value : a.value);
         if (joined)
-            test_fit_claim(strip.upper, a.z, a.high.fit, a.high.value);
+            test_kelvin_claim(strip.upper, a.z, a.high.fit, a.high.value);
         test_entropy_claim(a.y, a.z, joined);
     }
-    for (int64_t z = LOWEST_Z; !pressure_warned(y, z); z += 90000) {
-        tally_case("claims on gamma", (uint64_t)(z + 1000000000 * (y + 7000000)));
-        test_gamma_claim(joined ? strip.lower : y, z);
-        if (joined)
-            test_gamma_claim(strip.upper, z);
+    for (int of = 0; of < FITTED; of++) {
+        for (int64_t z = fit_start(of) + 10000; z <= fit_limit(of, joined ? strip.upper : y); z += 90000) {
+            tally_case("claims on distances", (uint64_t)(z + 1000000000 * (y + 7000000)));
+            test_distance_claim(of, joined ? strip.lower : y, z);
+            if (joined)
+                test_distance_claim(of, strip.upper, z);
+        }
     }
 }
 

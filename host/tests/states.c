@@ -46,15 +46,14 @@ static const uint8_t odd_kinds[] = {0, 1, 2, 3, 4, 49, 128, 255};
 /* Kinds of random states, as often as they stand here. */
 static const uint8_t random_kinds[] = {1, 1, 1, 1, 2, 2, 3, 3, 3};
 
-/* standard·10^(millionths/1,000,000), to the nearest whole number, 1 at least. */
-static uint64_t scaled(uint64_t standard, int64_t millionths) {
-    long double value = roundl((long double)standard * powl(10.0L, (long double)millionths / 1000000.0L));
+uint64_t scaled(uint64_t standard, long double millionths) {
+    long double value = roundl((long double)standard * powl(10.0L, millionths / 1000000.0L));
     return value < 1.0L ? 1 : value > 1.8e19L ? UINT64_MAX : (uint64_t)value;
 }
 
 air_state state_near(uint8_t kind, int64_t y, int64_t z) {
-    air_state s = {.kind = kind, .second = scaled(D0, y)};
-    s.first = kind == 1 ? scaled(P0, y + z) : scaled(E0, z);
+    air_state s = {.kind = kind, .second = scaled(D0, (long double)y)};
+    s.first = kind == 1 ? scaled(P0, (long double)(y + z)) : scaled(E0, (long double)z);
     return s;
 }
 
@@ -69,6 +68,23 @@ int64_t fit_start(fitted_property of) {
 int64_t fit_near(fitted_property of, int64_t y, int64_t z) {
     const fit_piece *piece = piece_at(of, y, z);
     return (int64_t)fitted(piece, y, z, nearest_weight(piece, y, z));
+}
+
+bool box_of(fitted_property of, density_band band, int place, piece_box *box) {
+    const printed_piece *pieces = printed_pieces[of][band];
+    int64_t ends[BANDS + 1] = {-7000001, 0, 0, 3000000};
+    for (int i = 0; i < STRIPS; i++)
+        ends[i + 1] = (density_strips[i].lower + density_strips[i].upper) / 2;
+    *box = (piece_box){.least_y = ends[band] + 1, .most_y = ends[band + 1]};
+    box->least_z = (place == 0 ? fit_start(of) : pieces[place - 1].upper) + 1;
+    box->most_z = pieces[place].upper;
+    return pieces[place].label != 0;
+}
+
+long double place_of_exponent(const fit_piece *piece, int64_t y, long double q) {
+    long double c1 = piece->exponent[0], c2 = piece->exponent[1], c3 = piece->exponent[2], c4 = piece->exponent[3];
+    long double at = (long double)y / 1000000.0L;
+    return (q - c1 - c2 * at) / (c3 + c4 * at) * 1000000.0L;
 }
 
 static int64_t lesser(int64_t a, int64_t b) {
@@ -124,11 +140,8 @@ static void add_plane_edges(void) {
 static void add_transitions(fitted_property of, int64_t edge, int64_t y) {
     for (int64_t start = fit_start(of) + 1; start <= fit_limit(of, edge); start += 50000) {
         const fit_piece *piece = piece_at(of, edge, start);
-        long double c1 = piece->exponent[0], c2 = piece->exponent[1], c3 = piece->exponent[2], c4 = piece->exponent[3];
-        long double at = (long double)edge / 1000000.0L;
         for (int side = -1; piece->weighed && side <= 1; side++) {
-            long double q = (long double)(side * piece->kept);
-            long double z = (q - c1 - c2 * at) / (c3 + c4 * at) * 1000000.0L;
+            long double z = place_of_exponent(piece, edge, (long double)(side * piece->kept));
             if ((side == 0 || piece->kept != 0) && fabsl(z - (long double)start) < 25000.0L)
                 add_around(fitted_kind(of), y, (int64_t)z);
         }

@@ -1,14 +1,12 @@
--- From G within 10,000 units of the exact fit to T between the exact fit's powers of ten.
-use mathlib.Core.Path.{_≡_, refl}
+-- From G within the fit distance of the exact fit, which is less than a millionth, to T between the exact fit's powers of ten.
 use Prim.Native.Nat.{ℕ, _+_, _*_, _≤_, _<_}
 use native.Mathlib.Nat.{mul-pos, mul-le-mul-right, mul-lt-mul-of-pos-right, lt-of-mul-lt-mul-right}
 use native.Mathlib.Omega.{arith}
 use lib.Dec.{lit<}
-use lib.IntN.{ℤ, pos, _+ℤ_, _-ℤ_, _*ℤ_}
-use lib.Signed.{_≤ℤ_, shrZ}
+use lib.IntN.{ℤ}
 use Rattle.integer.specs.Z.{up, dn, zs, v, ≤-by, ≤-of}
 use Rattle.integer.specs.Floor.{Down, down}
-use Rattle.fraction.specs.Fraction.{Fraction, Within, over, floor}
+use Rattle.fraction.specs.Fraction.{Fraction, Within}
 use Rattle.fraction.proofs.Order.{above-less, below-more}
 use Rattle.power.specs.Power.{IsPower}
 use Rattle.air.specs.Quantities.{T0}

@@ -63,7 +63,7 @@ placed from ends last y z r h k =
     in-box (bandFrom b) (bandTo b) from (ends b) (last b) y z (i .least) (i .most) h k
 
 -- ---- temperature
-abbrev temperatureReach : Band → List Box
+abbrev pub temperatureReach : Band → List Box
 temperatureReach = reach (pos 250000) temperatureEnds (λ b. pos 3000000)
 
 passes : (b : Band) → T (allPass inUnits fitDistance tolerance (temperatureReach b) (temperaturePieces b))
@@ -81,7 +81,7 @@ fit-near n most y z w box h =
     (placed (pos 250000) temperatureEnds (λ b. pos 3000000) y z (box .density) (→≤ (omega (arith, <→ (box .least)))) (box .most)) n w most h
 
 -- ---- gamma
-abbrev gammaReach : Band → List Box
+abbrev pub gammaReach : Band → List Box
 gammaReach = reach (negℤ (pos 1000000)) gammaEnds gammaLimit
 
 gamma-passes : (b : Band) → T (allPass inUnits gammaDistance tolerance (gammaReach b) (gammaPieces b))

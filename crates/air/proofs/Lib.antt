@@ -3,6 +3,7 @@ pub mod Tests
 pub mod Places
 pub mod Between
 pub mod Fit
+pub mod Distances
 pub mod Strips
 pub mod Entropy
 pub mod Claims

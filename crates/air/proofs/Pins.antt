@@ -48,11 +48,11 @@ pub not-between-at-2 : Between (pos 2) T0 → ⊥
 not-between-at-2 h = one-not-above 1000000 T0 (h .above)
 
 -- ---- the distances: so many units from 0, and no further
-pub fit-reaches : Within fitDistance (pos 10000) (whole (pos 0))
-fit-reaches = within-more (lit≤ tt) (reaches 10000)
+pub fit-reaches : Within fitDistance (pos 4000) (whole (pos 0))
+fit-reaches = within-more (lit≤ tt) (reaches 4000)
 
-pub fit-reaches-no-further : Within fitDistance (pos 10001) (whole (pos 0)) → ⊥
-fit-reaches-no-further = reaches-no-further 10000
+pub fit-reaches-no-further : Within fitDistance (pos 4001) (whole (pos 0)) → ⊥
+fit-reaches-no-further = reaches-no-further 4000
 
 pub entropy-reaches : Within entropyDistance (pos 3) (whole (pos 0))
 entropy-reaches = within-more (lit≤ tt) (reaches 3)

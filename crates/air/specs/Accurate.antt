@@ -17,9 +17,9 @@ use Rattle.air.specs.Entropy.{letterS, EntropyLogs}
 use Rattle.air.specs.Pressure.{letterP, pressureOf, pressureRule}
 use Rattle.air.specs.Exact.{exactEntropy}
 
--- how far a fitted temperature's exponent may be from the exact fit, in units of 10^-10
+-- request 4: how far a fitted temperature's exponent, in a join each edge's, may be from the exact fit, in units of 10^-10
 abbrev pub fitDistance : ℕ
-fitDistance = 10000
+fitDistance = 4000
 
 -- how far an entropy may be from the exact one, in units of 0.0001
 abbrev pub entropyDistance : ℕ

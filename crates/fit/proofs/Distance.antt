@@ -76,6 +76,12 @@ abbrev pub distance : Box → ℕ → Printed → ℕ
 distance b k (inUnits p) = distanceOf b k none same p
 distance b k (inHundredths p) = distanceOf b k off nearestOf p
 
+-- of each piece of a table, in its own box; print says how the table's numbers are printed
+unfoldable pub distances : (Piece → Printed) → ℕ → List Box → List Piece → List ℕ
+distances print k (b ∷ bs) (p ∷ ps) = distance b k (print p) ∷ distances print k bs ps
+distances print k [] ps = []
+distances print k (b ∷ bs) [] = []
+
 -- what a rounded exponent has lost is little beside how far from 0 it is
 abbrev lossOf : Box → (List ℤ → ℕ) → Piece → ℕ
 lossOf b off (alone A) = 0
@@ -155,5 +161,9 @@ module _ (print : Piece → Printed) (d k : ℕ) (bs : List Box) (ps : List Piec
   pub table-serves : ServedAt (rounded p) y z
   table-serves = served b (rounded p) (tests .1 .1) y z inside
 
+  -- each piece is within its own distance, and so within the table's
+  pub own-near : (N : ℕ) (w : ℤ) → 128 ≤ N → Weighs k (rounded p) y z w → Within (distance b k p) (fitted (rounded p) y z w) (exactFit p N y z)
+  own-near N w most h = fit-near b k N y z w most inside p (leb→le _ _ (tests .1 .0)) table-serves h
+
   pub table-near : (N : ℕ) (w : ℤ) → 128 ≤ N → Weighs k (rounded p) y z w → Within d (fitted (rounded p) y z w) (exactFit p N y z)
-  table-near N w most h = near-more (leb→le _ _ (tests .0)) (fit-near b k N y z w most inside p (leb→le _ _ (tests .1 .0)) table-serves h)
+  table-near N w most h = near-more (leb→le _ _ (tests .0)) (own-near N w most h)

@@ -17,7 +17,7 @@ pub record ValuesReady (e d : ℕ) : Type 0 where
   pub energy : e ≤ 10 ^ 12
   pub density : d ≤ 129200000000000
 
--- a strip's two edges around a Y, a Z, and the values: in a strip a density is below D0
+-- a strip's two edges around a Y, a Z, and the values: in a strip a density is at most D0
 pub record StripReady (e d : ℕ) (a b y z : ℤ) : Type 0 where
   pub between : Between a b y
   pub low : GammaReady a z

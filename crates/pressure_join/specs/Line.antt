@@ -18,7 +18,7 @@ lineOf e d a b l low high =
     cond (beyondGamma (low .fit) || beyondGamma (high .fit)) (judges 17 letterP l (Two low high))
     (shows letterP l (Two low high) (Both (pressureOf e d (low .fit)) (pressureOf e d (high .fit))) (straight a b (pressureOf e d (low .fit)) (pressureOf e d (high .fit)) (l .y)))
 
--- where its numbers lie: in a strip a density is below D0
+-- where its numbers lie: in a strip a density is at most D0
 pub record LineReady (e d : ℕ) (a b y : ℤ) : Type 0 where
   pub between : Between a b y
   pub low : In 25 a

@@ -4,11 +4,10 @@ use Prim.Native.Nat.{_*_, _^_, _≤_, _<_}
 use native.Mathlib.Nat.{mul-le-mul, mul-le-mul-right, le-of-lt}
 use native.Mathlib.Omega.{arith}
 use lib.Dec.{lit<}
-use lib.IntN.{ℤ, pos, negsuc, natAbs, _+ℤ_, _-ℤ_, _*ℤ_, *ℤ-comm}
-use lib.Signed.{_≤ℤ_, shrZ}
+use lib.IntN.{ℤ, pos, natAbs, _+ℤ_, _-ℤ_, _*ℤ_, *ℤ-comm}
+use lib.Signed.{shrZ}
 use mir.Syntax.{w64}
 use mir.Val.{SFits}
-use Rattle.integer.specs.Z.{≤→}
 use Rattle.integer.specs.Laws.{abs-+, abs-*}
 use Rattle.integer.specs.Floor.{Down}
 use Rattle.weight.specs.Weight.{units}
@@ -17,11 +16,6 @@ use Rattle.proportion.specs.Reach.{reach}
 use Rattle.quotient.proofs.Floors.{is-down, split, twice, quotient-upto, rest-size, product-size}
 use Rattle.integer.proofs.Machine.{fits64}
 use Rattle.quotient.proofs.Splits.{splits, divides-over}
-
--- a weight between 0 and 1 is within reach
-pub weight-size : (w : ℤ) → pos 0 ≤ℤ w → w ≤ℤ pos units → natAbs w ≤ reach
-weight-size (pos w) h k = omega (arith, ≤→ k)
-weight-size (negsuc w) h k = absurd (h .le)
 
 -- the weighted part of B is at most twice as large as B
 pub scaled-size : (w b : ℤ) → natAbs w ≤ reach → natAbs (shrZ (w *ℤ b) units) ≤ 2 * natAbs b

@@ -32,7 +32,7 @@ pub fn between(bytes: &[u8]) {
 }
 
 // A space and a whole number.
-fn column(z: i64) {
+pub fn column(z: i64) {
     let mut line = [0u8; 192];
     let n = decimal::put_whole(&mut line, 0, z);
     say(b" ");

@@ -1,11 +1,13 @@
 // Runs vectors and writes a line for each.
 // Standard input has a case a line: what is done, its words with one space between, and a label that the answer repeats.
 //
-//   state KIND FIRST SECOND   a state's answer, in columns: see `columns` of vector_answers
-//   read SPELLING LABEL       the name's bytes in decimal, and the name as written
-//   write ROOM NAME LABEL     how many bytes were written, and between < and > the whole room
-//   check SHEET LABEL         the refusal's number or 0
-//   find SHEET SPELLING LABEL the record, and between < and > the part of the sheet that holds the name
+//   state KIND FIRST SECOND     a state's answer, in columns: see `columns` of vector_answers
+//   plus FROM STEP COUNT LABEL  the weights of a plus transition at q and at -q, COUNT times: q is FROM units, then STEP more
+//   minus FROM STEP COUNT LABEL the same of a minus transition, where q is not below 1.9
+//   read SPELLING LABEL         the name's bytes in decimal, and the name as written
+//   write ROOM NAME LABEL       how many bytes were written, and between < and > the whole room
+//   check SHEET LABEL           the refusal's number or 0
+//   find SHEET SPELLING LABEL   the record, and between < and > the part of the sheet that holds the name
 //
 // In a word \x and two hexadecimal digits stand for a byte. A sheet is its bytes, or @ and the name of a file that has them.
 use libc::STDIN_FILENO;
@@ -113,6 +115,8 @@ fn case(text: &[u8], at: usize) -> usize
     let what = next_word(text, at + 1, b' ', &mut room);
     match text[at] {
         b's' => state(text, what.end),
+        b'p' => vector_weights::weights(text, what.end, false),
+        b'm' => vector_weights::weights(text, what.end, true),
         b'r' => vector_names::read(text, what.end),
         b'w' => vector_names::write(text, what.end),
         b'c' => check(text, what.end),

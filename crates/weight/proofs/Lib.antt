@@ -1,3 +1,4 @@
+pub mod Computed
 pub mod Series
 pub mod Lipschitz
 pub mod Moved

@@ -1,4 +1,4 @@
--- Free answer two at q = 0, where the sum is 1 and the ideal weight one half for every number of terms: a weight is at most 10 units from
+-- Free answer two at q = 0, where the sum is 1 and the ideal weight one half for every number of terms: a weight is at most 2 units from
 -- 5,000,000,000. Assumes nothing.
 use mathlib.Core.Path.{_≡_, refl, ap}
 use Prim.Native.Nat.{ℕ, zero, suc, _+_, _*_, _≤_, _<_}
@@ -39,16 +39,16 @@ module _ (k w n : ℕ) where
           let high : 5000000000 * d ≤ (w + k) * d = omega (arith, ≤-of (search zs) (i .high)) in
           (le-of-mul-le-mul-right {k = d} low p, le-of-mul-le-mul-right {k = d} high p)
 
--- 10 units off are allowed
-pub half-and-10 : IsWeight tolerance (pos 0) (pos 5000000010)
-half-and-10 = record { least = ≤-by (search zs) (omega arith); most = ≤-by (search zs) (omega arith); near = λ n h. near-half tolerance 5000000010 n (lit≤ tt) (lit≤ tt) }
+-- 2 units off are allowed
+pub half-and-2 : IsWeight tolerance (pos 0) (pos 5000000002)
+half-and-2 = record { least = ≤-by (search zs) (omega arith); most = ≤-by (search zs) (omega arith); near = λ n h. near-half tolerance 5000000002 n (lit≤ tt) (lit≤ tt) }
 
-pub half-less-10 : IsWeight tolerance (pos 0) (pos 4999999990)
-half-less-10 = record { least = ≤-by (search zs) (omega arith); most = ≤-by (search zs) (omega arith); near = λ n h. near-half tolerance 4999999990 n (lit≤ tt) (lit≤ tt) }
+pub half-less-2 : IsWeight tolerance (pos 0) (pos 4999999998)
+half-less-2 = record { least = ≤-by (search zs) (omega arith); most = ≤-by (search zs) (omega arith); near = λ n h. near-half tolerance 4999999998 n (lit≤ tt) (lit≤ tt) }
 
--- 11 are not
-pub not-half-and-11 : IsWeight tolerance (pos 0) (pos 5000000011) → ⊥
-not-half-and-11 h = omega (arith, half-near tolerance 5000000011 128 (h .near 128 (lit≤ tt)) .0)
+-- 3 are not
+pub not-half-and-3 : IsWeight tolerance (pos 0) (pos 5000000003) → ⊥
+not-half-and-3 h = omega (arith, half-near tolerance 5000000003 128 (h .near 128 (lit≤ tt)) .0)
 
-pub not-half-less-11 : IsWeight tolerance (pos 0) (pos 4999999989) → ⊥
-not-half-less-11 h = omega (arith, half-near tolerance 4999999989 128 (h .near 128 (lit≤ tt)) .1)
+pub not-half-less-3 : IsWeight tolerance (pos 0) (pos 4999999997) → ⊥
+not-half-less-3 h = omega (arith, half-near tolerance 4999999997 128 (h .near 128 (lit≤ tt)) .1)

@@ -57,9 +57,9 @@ idealOf oneMinus n q = idealMinus n q
 abbrev pub units : ℕ
 units = 10000000000
 
--- document 01, Weight: how many units a weight may lie from the ideal one
+-- document 01, Weight, as request 4 has it: how many units a weight may lie from the ideal one, of either transition
 abbrev pub tolerance : ℕ
-tolerance = 10
+tolerance = 2
 
 -- document 01, Weight, free answer two, with a tolerance of k units: w is between 0 and 1 and near the ideal weight at q units,
 -- whatever the number of terms from 128 up

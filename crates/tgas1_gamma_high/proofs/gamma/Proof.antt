@@ -7,7 +7,7 @@ use Rattle.integer.proofs.Machine.{back}
 use Rattle.bicubic.proofs.Constant.{constant-is}
 use Rattle.bands.specs.Units.{indexIn}
 use Rattle.bands.proofs.Tests.{tests}
-use Rattle.fit.proofs.Arms.{arm-takes, arm-gives}
+use Rattle.fit.proofs.Arms.{same-piece, arm-takes, arm-gives}
 use Rattle.tgas1_gamma_high.specs.Pieces.{highEnds, highPieces}
 use Rattle.tgas1_gamma_high.proofs.gamma.Statement.{statement}
 use Rattle.tgas1_gamma_high.proofs.gamma.Tie as tie
@@ -51,27 +51,27 @@ returns c = let s = c .before in rw (index-1 c, constant-is _ (s .args .y) (s .a
 
 high2-requires : tie.Need-high2-requires
 unfolding highPieces
-high2-requires c κs = let s = c .before .before in arm-takes highPieces (index-2 c) (s .fits .y) (s .fits .z) (s .pre)
+high2-requires c κs = let s = c .before .before in arm-takes (same-piece highPieces (index-2 c)) (s .fits .y) (s .fits .z) (s .pre)
 
 returns-2 : tie.Need-returns-2
 unfolding highPieces
-returns-2 c = let s = c .before .before .before in arm-gives highPieces (index-2 (c .before)) (s .fits .y) (s .fits .z) (c .high2 .ensures)
+returns-2 c = let s = c .before .before .before in arm-gives (same-piece highPieces (index-2 (c .before))) (s .fits .y) (s .fits .z) (c .high2 .ensures)
 
 high3-requires : tie.Need-high3-requires
 unfolding highPieces
-high3-requires c κs = let s = c .before .before .before in arm-takes highPieces (index-3 c) (s .fits .y) (s .fits .z) (s .pre)
+high3-requires c κs = let s = c .before .before .before in arm-takes (same-piece highPieces (index-3 c)) (s .fits .y) (s .fits .z) (s .pre)
 
 returns-3 : tie.Need-returns-3
 unfolding highPieces
-returns-3 c = let s = c .before .before .before .before in arm-gives highPieces (index-3 (c .before)) (s .fits .y) (s .fits .z) (c .high3 .ensures)
+returns-3 c = let s = c .before .before .before .before in arm-gives (same-piece highPieces (index-3 (c .before))) (s .fits .y) (s .fits .z) (c .high3 .ensures)
 
 high4-requires : tie.Need-high4-requires
 unfolding highPieces
-high4-requires c κs = let s = c .before .before .before in arm-takes highPieces (index-4 c) (s .fits .y) (s .fits .z) (s .pre)
+high4-requires c κs = let s = c .before .before .before in arm-takes (same-piece highPieces (index-4 c)) (s .fits .y) (s .fits .z) (s .pre)
 
 returns-4 : tie.Need-returns-4
 unfolding highPieces
-returns-4 c = let s = c .before .before .before .before in arm-gives highPieces (index-4 (c .before)) (s .fits .y) (s .fits .z) (c .high4 .ensures)
+returns-4 c = let s = c .before .before .before .before in arm-gives (same-piece highPieces (index-4 (c .before))) (s .fits .y) (s .fits .z) (c .high4 .ensures)
 
 pub gamma-spec : {M : Type 1} → statement M
 gamma-spec =

@@ -7,7 +7,7 @@ use Rattle.integer.proofs.Machine.{back}
 use Rattle.bicubic.proofs.Constant.{constant-is}
 use Rattle.bands.specs.Units.{indexIn}
 use Rattle.bands.proofs.Tests.{tests}
-use Rattle.fit.proofs.Arms.{arm-takes, arm-gives}
+use Rattle.fit.proofs.Arms.{same-piece, arm-takes, arm-gives}
 use Rattle.tgas1_gamma_low.specs.Pieces.{lowEnds, lowPieces}
 use Rattle.tgas1_gamma_low.proofs.gamma.Statement.{statement}
 use Rattle.tgas1_gamma_low.proofs.gamma.Tie as tie
@@ -69,43 +69,43 @@ returns c = let s = c .before in rw (index-1 c, constant-is _ (s .args .y) (s .a
 
 low2-requires : tie.Need-low2-requires
 unfolding lowPieces
-low2-requires c κs = let s = c .before .before in arm-takes lowPieces (index-2 c) (s .fits .y) (s .fits .z) (s .pre)
+low2-requires c κs = let s = c .before .before in arm-takes (same-piece lowPieces (index-2 c)) (s .fits .y) (s .fits .z) (s .pre)
 
 returns-2 : tie.Need-returns-2
 unfolding lowPieces
-returns-2 c = let s = c .before .before .before in arm-gives lowPieces (index-2 (c .before)) (s .fits .y) (s .fits .z) (c .low2 .ensures)
+returns-2 c = let s = c .before .before .before in arm-gives (same-piece lowPieces (index-2 (c .before))) (s .fits .y) (s .fits .z) (c .low2 .ensures)
 
 low3-requires : tie.Need-low3-requires
 unfolding lowPieces
-low3-requires c κs = let s = c .before .before .before in arm-takes lowPieces (index-3 c) (s .fits .y) (s .fits .z) (s .pre)
+low3-requires c κs = let s = c .before .before .before in arm-takes (same-piece lowPieces (index-3 c)) (s .fits .y) (s .fits .z) (s .pre)
 
 returns-3 : tie.Need-returns-3
 unfolding lowPieces
-returns-3 c = let s = c .before .before .before .before in arm-gives lowPieces (index-3 (c .before)) (s .fits .y) (s .fits .z) (c .low3 .ensures)
+returns-3 c = let s = c .before .before .before .before in arm-gives (same-piece lowPieces (index-3 (c .before))) (s .fits .y) (s .fits .z) (c .low3 .ensures)
 
 low4-requires : tie.Need-low4-requires
 unfolding lowPieces
-low4-requires c κs = let s = c .before .before .before .before in arm-takes lowPieces (index-4 c) (s .fits .y) (s .fits .z) (s .pre)
+low4-requires c κs = let s = c .before .before .before .before in arm-takes (same-piece lowPieces (index-4 c)) (s .fits .y) (s .fits .z) (s .pre)
 
 returns-4 : tie.Need-returns-4
 unfolding lowPieces
-returns-4 c = let s = c .before .before .before .before .before in arm-gives lowPieces (index-4 (c .before)) (s .fits .y) (s .fits .z) (c .low4 .ensures)
+returns-4 c = let s = c .before .before .before .before .before in arm-gives (same-piece lowPieces (index-4 (c .before))) (s .fits .y) (s .fits .z) (c .low4 .ensures)
 
 low5-requires : tie.Need-low5-requires
 unfolding lowPieces
-low5-requires c κs = let s = c .before .before .before .before .before in arm-takes lowPieces (index-5 c) (s .fits .y) (s .fits .z) (s .pre)
+low5-requires c κs = let s = c .before .before .before .before .before in arm-takes (same-piece lowPieces (index-5 c)) (s .fits .y) (s .fits .z) (s .pre)
 
 returns-5 : tie.Need-returns-5
 unfolding lowPieces
-returns-5 c = let s = c .before .before .before .before .before .before in arm-gives lowPieces (index-5 (c .before)) (s .fits .y) (s .fits .z) (c .low5 .ensures)
+returns-5 c = let s = c .before .before .before .before .before .before in arm-gives (same-piece lowPieces (index-5 (c .before))) (s .fits .y) (s .fits .z) (c .low5 .ensures)
 
 low6-requires : tie.Need-low6-requires
 unfolding lowPieces
-low6-requires c κs = let s = c .before .before .before .before .before in arm-takes lowPieces (index-6 c) (s .fits .y) (s .fits .z) (s .pre)
+low6-requires c κs = let s = c .before .before .before .before .before in arm-takes (same-piece lowPieces (index-6 c)) (s .fits .y) (s .fits .z) (s .pre)
 
 returns-6 : tie.Need-returns-6
 unfolding lowPieces
-returns-6 c = let s = c .before .before .before .before .before .before in arm-gives lowPieces (index-6 (c .before)) (s .fits .y) (s .fits .z) (c .low6 .ensures)
+returns-6 c = let s = c .before .before .before .before .before .before in arm-gives (same-piece lowPieces (index-6 (c .before))) (s .fits .y) (s .fits .z) (c .low6 .ensures)
 
 pub gamma-spec : {M : Type 1} → statement M
 gamma-spec =

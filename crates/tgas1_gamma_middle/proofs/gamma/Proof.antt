@@ -7,7 +7,7 @@ use Rattle.integer.proofs.Machine.{back}
 use Rattle.bicubic.proofs.Constant.{constant-is}
 use Rattle.bands.specs.Units.{indexIn}
 use Rattle.bands.proofs.Tests.{tests}
-use Rattle.fit.proofs.Arms.{arm-takes, arm-gives}
+use Rattle.fit.proofs.Arms.{same-piece, arm-takes, arm-gives}
 use Rattle.tgas1_gamma_middle.specs.Pieces.{middleEnds, middlePieces}
 use Rattle.tgas1_gamma_middle.proofs.gamma.Statement.{statement}
 use Rattle.tgas1_gamma_middle.proofs.gamma.Tie as tie
@@ -60,35 +60,35 @@ returns c = let s = c .before in rw (index-1 c, constant-is _ (s .args .y) (s .a
 
 middle2-requires : tie.Need-middle2-requires
 unfolding middlePieces
-middle2-requires c κs = let s = c .before .before in arm-takes middlePieces (index-2 c) (s .fits .y) (s .fits .z) (s .pre)
+middle2-requires c κs = let s = c .before .before in arm-takes (same-piece middlePieces (index-2 c)) (s .fits .y) (s .fits .z) (s .pre)
 
 returns-2 : tie.Need-returns-2
 unfolding middlePieces
-returns-2 c = let s = c .before .before .before in arm-gives middlePieces (index-2 (c .before)) (s .fits .y) (s .fits .z) (c .middle2 .ensures)
+returns-2 c = let s = c .before .before .before in arm-gives (same-piece middlePieces (index-2 (c .before))) (s .fits .y) (s .fits .z) (c .middle2 .ensures)
 
 middle3-requires : tie.Need-middle3-requires
 unfolding middlePieces
-middle3-requires c κs = let s = c .before .before .before in arm-takes middlePieces (index-3 c) (s .fits .y) (s .fits .z) (s .pre)
+middle3-requires c κs = let s = c .before .before .before in arm-takes (same-piece middlePieces (index-3 c)) (s .fits .y) (s .fits .z) (s .pre)
 
 returns-3 : tie.Need-returns-3
 unfolding middlePieces
-returns-3 c = let s = c .before .before .before .before in arm-gives middlePieces (index-3 (c .before)) (s .fits .y) (s .fits .z) (c .middle3 .ensures)
+returns-3 c = let s = c .before .before .before .before in arm-gives (same-piece middlePieces (index-3 (c .before))) (s .fits .y) (s .fits .z) (c .middle3 .ensures)
 
 middle4-requires : tie.Need-middle4-requires
 unfolding middlePieces
-middle4-requires c κs = let s = c .before .before .before .before in arm-takes middlePieces (index-4 c) (s .fits .y) (s .fits .z) (s .pre)
+middle4-requires c κs = let s = c .before .before .before .before in arm-takes (same-piece middlePieces (index-4 c)) (s .fits .y) (s .fits .z) (s .pre)
 
 returns-4 : tie.Need-returns-4
 unfolding middlePieces
-returns-4 c = let s = c .before .before .before .before .before in arm-gives middlePieces (index-4 (c .before)) (s .fits .y) (s .fits .z) (c .middle4 .ensures)
+returns-4 c = let s = c .before .before .before .before .before in arm-gives (same-piece middlePieces (index-4 (c .before))) (s .fits .y) (s .fits .z) (c .middle4 .ensures)
 
 middle5-requires : tie.Need-middle5-requires
 unfolding middlePieces
-middle5-requires c κs = let s = c .before .before .before .before in arm-takes middlePieces (index-5 c) (s .fits .y) (s .fits .z) (s .pre)
+middle5-requires c κs = let s = c .before .before .before .before in arm-takes (same-piece middlePieces (index-5 c)) (s .fits .y) (s .fits .z) (s .pre)
 
 returns-5 : tie.Need-returns-5
 unfolding middlePieces
-returns-5 c = let s = c .before .before .before .before .before in arm-gives middlePieces (index-5 (c .before)) (s .fits .y) (s .fits .z) (c .middle5 .ensures)
+returns-5 c = let s = c .before .before .before .before .before in arm-gives (same-piece middlePieces (index-5 (c .before))) (s .fits .y) (s .fits .z) (c .middle5 .ensures)
 
 pub gamma-spec : {M : Type 1} → statement M
 gamma-spec =
