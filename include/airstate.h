@@ -1,8 +1,10 @@
 /* Equilibrium air: temperature, entropy, pressure and the state sheet.
  *
- * A sheet is the bytes of a file as docs/FORMAT.md has it: named states, each with a kind and two values. A spelled
- * name is a name by RFC 3986: letters, digits and - . _ ~ stand for themselves, any other byte is % and two hexadecimal
- * digits. A name itself is 1 to 40 bytes of any value.
+ * A sheet is the bytes of a file as docs/FORMAT.md has it: named states, each with a kind and two values and, in
+ * version 2, a remark of up to 255 bytes, which no answer depends on: two sheets within 65,536 bytes that differ only
+ * in remarks get equal numbers and equal answers from every call but eas_remark, the places of their names aside. A
+ * spelled name is a name by RFC 3986: letters, digits and - . _ ~ stand for themselves, any other byte is % and two
+ * hexadecimal digits. A name itself is 1 to 40 bytes of any value.
  *
  * kind  first value                    second value                   answer
  *   1   pressure in 10^-6 Pa,          density in 10^-11 kg/m3,       letter 'T': temperature in 10^-6 K
@@ -41,9 +43,9 @@ extern "C" {
 
 /* The version of this header. The library has the same soname as long as the first number stays. */
 #define EAS_VERSION_MAJOR 2
-#define EAS_VERSION_MINOR 3
+#define EAS_VERSION_MINOR 4
 #define EAS_VERSION_PATCH 0
-#define EAS_VERSION "2.3.0"
+#define EAS_VERSION "2.4.0"
 
 /* Whether this header is of a version or a later one: #if !EAS_VERSION_AT_LEAST(2, 0, 0) ... #error */
 #define EAS_VERSION_AT_LEAST(major, minor, patch)                                                                      \
@@ -54,6 +56,7 @@ extern "C" {
 enum {
     EAS_NAME_ROOM = 40,      /* a name */
     EAS_SPELLING_ROOM = 120, /* a spelling as it is written */
+    EAS_REMARK_ROOM = 255,   /* a remark */
     EAS_LINE_ROOM = 192,     /* a listing line with its newline */
     EAS_SHEET_ROOM = 65536   /* a sheet; the longest name list too */
 };
@@ -63,9 +66,9 @@ enum {
     /* the sheet as a whole */
     EAS_SHEET_TOO_LONG = 1,  /* over 65,536 bytes */
     EAS_NOT_A_SHEET = 2,     /* under 7 bytes, or the first three are not EAS */
-    EAS_VERSION_UNKNOWN = 3, /* its version is not 1 */
+    EAS_VERSION_UNKNOWN = 3, /* its version is neither 1 nor 2 */
     /* each record in turn */
-    EAS_RECORD_CUT = 4,         /* its length byte or its rest is missing; after the records, bytes are left over */
+    EAS_RECORD_CUT = 4, /* its length byte, its rest or its remark is cut; after the records, bytes are left over */
     EAS_RECORD_NAME_LENGTH = 5, /* its name's length is 0 or over 40 */
     EAS_KIND_UNKNOWN = 6,       /* its kind is none of the table above */
     EAS_NAME_REPEATED = 16,     /* an earlier record has its name */
@@ -97,7 +100,7 @@ static inline const char *eas_reason(uint32_t number) {
     case EAS_NOT_A_SHEET:
         return "not a sheet: under 7 bytes, or it does not begin with EAS";
     case EAS_VERSION_UNKNOWN:
-        return "the sheet's version is not 1";
+        return "the sheet's version is neither 1 nor 2";
     case EAS_RECORD_CUT:
         return "bytes are missing from a record, or left over after the last";
     case EAS_RECORD_NAME_LENGTH:
@@ -166,6 +169,12 @@ typedef struct {
     size_t start, length;
 } eas_record;
 
+/* A part of a sheet: the `length` bytes from `start` on, which lie in the sheet. Refused: all 0 but the number. */
+typedef struct {
+    uint32_t number;
+    size_t start, length;
+} eas_part;
+
 /* number 0: the first `length` bytes of the room were written. Refused: length is 0. */
 typedef struct {
     uint32_t number;
@@ -189,6 +198,10 @@ uint32_t eas_check(const uint8_t *sheet, size_t n);
 
 /* Finds a spelled name: its record, or 1 to 9 or 16. */
 eas_record eas_find(const uint8_t *sheet, size_t n, const uint8_t *spelled, size_t m);
+
+/* The remark of a spelled name's record, bytes of any value: 0, or 1 to 9 or 16. An empty remark starts behind its
+ * length byte; in version 1, which has no remarks, an empty part starts behind the record. */
+eas_part eas_remark(const uint8_t *sheet, size_t n, const uint8_t *spelled, size_t m);
 
 /* Record i of a sheet, from 0, in the sheet's order: 1 to 6 or 16, then 9 where there is none. Every call checks the
  * sheet; the records are i = 0, 1, ... until 9. */

@@ -1,5 +1,5 @@
 """Judges every line of crates/vectors/stdout that answers a read, write, check or find of crates/vectors/stdin: spelled names
-and sheets. Written from document 01 (Names, State sheet, Where an input stops) alone.
+and sheets. Written from document 01 (Names, State sheet, Where an input stops) and request 5 (remarks) alone.
 A line that is wrong fails, and so does a refusal that no line visits."""
 
 import re
@@ -59,29 +59,41 @@ def write(room_text, name_text):
     return 0, b" %d <%s>" % (len(text), text + room[len(text) :])
 
 
+def behind(s, at, version):
+    """the place behind a record whose values end at a place: in version 2 behind its remark; None where bytes are missing"""
+    if version == 2 and at < len(s):
+        at += 1 + s[at]
+    elif version == 2:
+        return None
+    return at if at <= len(s) else None
+
+
 def records(s):
     """a refusal's number and the records by name"""
     if len(s) > 65_536:
         return 1, {}
     if len(s) < 7 or s[:3] != b"EAS":
         return 2, {}
-    if number(s[3:5]) != 1:
+    version = number(s[3:5])
+    if version not in (1, 2):
         return 3, {}
     found, at = {}, 7
     for _ in range(number(s[5:7])):
         if at == len(s):
             return 4, {}
         start, end = at + 1, at + 1 + s[at]
-        name, at = s[start:end], end + 17
+        name, values = s[start:end], s[end + 1 : end + 17]
         if not is_length(end - start):
             return 5, {}
-        if len(s) < at:
+        values_end, at = end + 17, behind(s, end + 17, version)
+        if at is None:
             return 4, {}
+        remark = values_end + (version == 2)
         if s[end] not in KINDS:
             return 6, {}
         if name in found:
             return 16, {}
-        found[name] = (s[end], number(s[end + 1 : end + 9]), number(s[end + 9 : at]), start)
+        found[name] = (s[end], number(values[:8]), number(values[8:]), start, remark, at - remark)
     return (0, found) if at == len(s) else (4, {})
 
 
@@ -97,7 +109,7 @@ def find(sheet_text, spelling_text):
     refusal = refusal or wrong or (0 if name in found else 9)
     if refusal:
         return refusal, b" refused %d <>" % refusal
-    return 0, b" kind %d first %d second %d at %d <%s>" % (*found[name], name)
+    return 0, b" kind %d first %d second %d at %d remark at %d length %d <%s>" % (*found[name], name)
 
 
 # how many words a case has before its label, and the numbers that its lines must show
@@ -105,7 +117,7 @@ CASES = {
     b"read": (read, 1, {0, 7, 8}),
     b"write": (write, 2, {0, 8, 14}),
     b"check": (check, 1, {0, 1, 2, 3, 4, 5, 6, 16}),
-    b"find": (find, 2, {0, 3, 7, 8, 9, 16}),
+    b"find": (find, 2, {0, 3, 4, 6, 7, 8, 9, 16}),
 }
 
 

@@ -1,4 +1,5 @@
-"""The sheets of crates/vectors/data, from document 01, State sheet. Compares the folder with them; --write writes it."""
+"""The sheets of crates/vectors/data, from document 01, State sheet, and request 5 (remarks). Compares the folder with them;
+--write writes it."""
 
 import sys
 from pathlib import Path
@@ -21,9 +22,21 @@ def numbered(length, numbers, kind=1):
     return [record(i.to_bytes(length, "big"), kind, i, D0) for i in numbers]
 
 
+def remarked(records, remarks):
+    """records of version 2"""
+    return [r + bytes([len(remark)]) + remark for r, remark in zip(records, remarks, strict=True)]
+
+
 # 256 names of one byte, 3,028 of two and 5 of three: the most records that fill 65,536 bytes
 ONES, TWOS, THREES = numbered(1, range(256)), numbered(2, range(3028)), numbered(3, range(5))
 FULL = ONES + TWOS + THREES
+
+# version 2: 256 names of one byte and 2,876 of two, the last one zz: the most records, with 13 bytes left for the last remark
+PAIRS = numbered(2, range(0x7A7A - 2875, 0x7A7A + 1))
+MOST = remarked(ONES + PAIRS, [b""] * 3131 + [b"most records\n"])
+# the most remarks of 255 bytes: 238 of them, each turned by a byte, and one of 59 bytes behind the name z
+TURNED = bytes(range(255))
+LONGEST = remarked(numbered(1, [*range(140, 256), *range(123)]), [TURNED[i:] + TURNED[:i] for i in range(238)] + [TURNED[:59]])
 
 
 def last(records):
@@ -49,6 +62,12 @@ def sheets():
     yield "too_long", sheet(FULL) + b"\0"
     yield "too_long_mark_wrong", sheet(FULL, mark=b"\0AS") + b"\0"
     yield "too_long_version_0", sheet(FULL, version=0) + b"\0"
+    yield "remark_255", sheet(remarked(ONES[97:99], [b"\xff" * 255, b""]), version=2)
+    yield "remarks_3132", sheet(MOST, version=2)
+    yield "remarks_239", sheet(LONGEST, version=2)
+    yield "remarks_last_cut", sheet(MOST, version=2)[:-1]
+    yield "remarks_last_seen", sheet(MOST[:-1] + remarked(PAIRS[211:212], [b"seen earlier\n"]), version=2)
+    yield "remarks_too_long", sheet(MOST, version=2) + b"\0"
 
 
 def main():

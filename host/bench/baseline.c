@@ -63,6 +63,13 @@ static inline int is_known(uint8_t kind) {
     return kind >= 1 && kind <= 3;
 }
 
+/* Where the record ends whose values end at `at`: behind its remark in version 2. Beyond n where that is cut. */
+static inline size_t record_end(const uint8_t *sheet, size_t n, size_t at) {
+    if (sheet[4] == 1 || at > n)
+        return at;
+    return at == n ? n + 1 : at + 1 + sheet[at];
+}
+
 /* The refusal of the record at *at, or 0 with *at moved past it. */
 static inline uint32_t check_record(table *t, const uint8_t *sheet, size_t n, size_t *at) {
     if (*at >= n)
@@ -70,13 +77,14 @@ static inline uint32_t check_record(table *t, const uint8_t *sheet, size_t n, si
     size_t length = sheet[*at];
     if (length == 0 || length > 40)
         return 5;
-    if (n - *at < 1 + length + 17)
+    size_t end = record_end(sheet, n, *at + 1 + length + 17);
+    if (end > n)
         return 4;
     if (!is_known(sheet[*at + 1 + length]))
         return 6;
     if (!add(t, sheet, (uint32_t)*at))
         return 16;
-    *at += 1 + length + 17;
+    *at = end;
     return 0;
 }
 
@@ -94,7 +102,7 @@ static uint32_t fill(table *t, const uint8_t *sheet, size_t n) {
         return 1;
     if (n < 7 || memcmp(sheet, "EAS", 3))
         return 2;
-    if (sheet[3] != 0 || sheet[4] != 1)
+    if (sheet[3] != 0 || (sheet[4] != 1 && sheet[4] != 2))
         return 3;
     unsigned left = (unsigned)sheet[5] << 8 | sheet[6];
     prepare(t, left);
@@ -129,6 +137,14 @@ eas_record baseline_find(const uint8_t *sheet, size_t n, const uint8_t *spelled,
     table t;
     uint32_t number = fill(&t, sheet, n);
     return number ? (eas_record){.number = number} : look_up(&t, sheet, spelled, m);
+}
+
+eas_part baseline_remark(const uint8_t *sheet, size_t n, const uint8_t *spelled, size_t m) {
+    eas_record found = baseline_find(sheet, n, spelled, m);
+    if (found.number)
+        return (eas_part){.number = found.number};
+    size_t at = found.start + found.length + 17;
+    return sheet[4] == 1 ? (eas_part){0, at, 0} : (eas_part){0, at + 1, sheet[at]};
 }
 
 static int stands_for_itself(uint8_t c) {

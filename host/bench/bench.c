@@ -35,6 +35,12 @@ static size_t states;
 static pair *temperatures, *entropies, *pressures, *singles, *joins, *single_pressures, *joined_pressures;
 static uint8_t small_sheet[SHEET_MOST + 1], full_sheet[SHEET_MOST];
 static size_t small_size, full_size;
+
+/* The same states in as many bytes, with remarks: empty ones, short ones and the longest. */
+enum { SHORT_REMARK = 8 };
+static uint8_t remarked_sheet[SHEET_MOST], short_sheet[SHEET_MOST], long_sheet[SHEET_MOST];
+static size_t remarked_size, short_size, long_size;
+
 static text small_names[3], full_names[NAMES];
 static uint8_t name_list[SHEET_MOST + 1];
 static size_t name_list_size;
@@ -129,6 +135,27 @@ static void make_full_sheet(void) {
     }
 }
 
+/* The first states of the fullest sheet in one of version 2, as many as fit with a remark of this length each. The last
+ * remark takes what is left. */
+static size_t make_remarked(uint8_t *sheet, size_t length) {
+    size_t n = put_head(sheet), at = HEAD;
+    unsigned count = 0;
+    while (n + RECORD_LEAST + 2 <= SHEET_MOST) {
+        size_t record = 1u + full_sheet[at] + RECORD_REST, left = SHEET_MOST - n - record - 1;
+        size_t remark = left < length + RECORD_LEAST + 2 && left <= EAS_REMARK_ROOM ? left : length;
+        memcpy(sheet + n, full_sheet + at, record);
+        n += record;
+        at += record;
+        sheet[n++] = (uint8_t)remark;
+        memset(sheet + n, 'r', remark);
+        n += remark;
+        count++;
+    }
+    sheet[4] = 2;
+    put_number(sheet + 5, 2, count);
+    return n;
+}
+
 /* NAMES of the fullest sheet's names, spelled, each on a line, in an order that is not the sheet's. */
 static void make_names(void) {
     size_t at = HEAD, used = 0;
@@ -163,6 +190,7 @@ static uint8_t line[LINE_MOST];
 
 #define SMALL small_sheet, small_size, small_names[i % 3].bytes, small_names[i % 3].length
 #define FULL full_sheet, full_size, full_names[i].bytes, full_names[i].length
+#define REMARKED remarked_sheet, remarked_size, full_names[i].bytes, full_names[i].length
 
 JOB(library_temperature, states, eas_evaluate(1, temperatures[i].first, temperatures[i].second).value)
 JOB(listing_temperature, states, tgas1_temperature(temperatures[i].first, temperatures[i].second))
@@ -180,8 +208,18 @@ JOB(library_joined_pressure, states, eas_evaluate(3, joined_pressures[i].first, 
 JOB(listing_joined_pressure, states, tgas1_pressure(joined_pressures[i].first, joined_pressures[i].second))
 JOB(library_search_small, SMALL_CALLS, eas_search(SMALL).value)
 JOB(baseline_search_small, SMALL_CALLS, baseline_search(SMALL).value)
+JOB(library_check, FULL_CALLS, eas_check(full_sheet, full_size))
+JOB(plain_check, FULL_CALLS, baseline_check(full_sheet, full_size))
+JOB(library_check_remarked, FULL_CALLS, eas_check(remarked_sheet, remarked_size))
+JOB(plain_check_remarked, FULL_CALLS, baseline_check(remarked_sheet, remarked_size))
+JOB(library_check_short, FULL_CALLS, eas_check(short_sheet, short_size))
+JOB(plain_check_short, FULL_CALLS, baseline_check(short_sheet, short_size))
+JOB(library_check_long, FULL_CALLS, eas_check(long_sheet, long_size))
+JOB(plain_check_long, FULL_CALLS, baseline_check(long_sheet, long_size))
 JOB(library_search_full, FULL_CALLS, eas_search(FULL).value)
 JOB(baseline_search_full, FULL_CALLS, baseline_search(FULL).value)
+JOB(library_search_remarked, FULL_CALLS, eas_search(REMARKED).value)
+JOB(baseline_search_remarked, FULL_CALLS, baseline_search(REMARKED).value)
 JOB(library_line, SMALL_CALLS, eas_line(SMALL, line, sizeof line).length)
 JOB(plain_line, SMALL_CALLS, baseline_line(SMALL, (char *)line))
 JOB(library_lines, NAMES, eas_line(FULL, line, sizeof line).length)
@@ -196,6 +234,15 @@ static double library_list(void) {
 
 static double plain_list(void) {
     baseline_listing(full_sheet, full_size, name_list, name_list_size, nowhere);
+    return fflush(nowhere);
+}
+
+static double library_list_remarked(void) {
+    return (double)eas_list(remarked_sheet, remarked_size, name_list, name_list_size, listing, sizeof listing).length;
+}
+
+static double plain_list_remarked(void) {
+    baseline_listing(remarked_sheet, remarked_size, name_list, name_list_size, nowhere);
     return fflush(nowhere);
 }
 
@@ -236,11 +283,12 @@ static int be_the_listing(void) {
 }
 
 /* What is measured with NAMES names. */
-static char lines_title[48], list_title[48], program_title[48];
+static char lines_title[48], list_title[48], remarked_title[64], program_title[48];
 
 static void make_titles(void) {
     snprintf(lines_title, sizeof lines_title, "%d,%03d listing lines, fullest sheet", NAMES / 1000, NAMES % 1000);
     snprintf(list_title, sizeof list_title, "%d,%03d names in one call, fullest sheet", NAMES / 1000, NAMES % 1000);
+    snprintf(remarked_title, sizeof remarked_title, "%s of version 2", list_title);
     snprintf(program_title, sizeof program_title, "the listing program, %d,%03d names", NAMES / 1000, NAMES % 1000);
 }
 
@@ -318,6 +366,28 @@ static void measure_program(const char *path) {
     rmdir(folder);
 }
 
+static void make_all(void) {
+    make_states();
+    make_small_sheet();
+    make_full_sheet();
+    remarked_size = make_remarked(remarked_sheet, 0);
+    short_size = make_remarked(short_sheet, SHORT_REMARK);
+    long_size = make_remarked(long_sheet, EAS_REMARK_ROOM);
+    make_names();
+    make_titles();
+}
+
+static void print_head(void) {
+    printf("%zu temperatures, two thirds fitted, as many fitted outside the strips and joined in them, as many "
+           "entropies, and pressures as temperatures; ",
+           states);
+    printf("the fullest sheet has %u states in %zu bytes, ", record_count(full_sheet), full_size);
+    printf("of version 2 %u in %zu, with remarks of %d bytes %u, with the longest %u.\n", record_count(remarked_sheet),
+           remarked_size, SHORT_REMARK, record_count(short_sheet), record_count(long_sheet));
+    printf("Processor time: median of %d repetitions (least to most).\n\n", REPETITIONS);
+    printf("| what | library | plain C | ratio |\n|---|---|---|---|\n");
+}
+
 int main(int argc, char **argv) {
     if (argc == 2 && !strcmp(argv[1], "--listing"))
         return be_the_listing();
@@ -325,11 +395,7 @@ int main(int argc, char **argv) {
     nowhere = fopen("/dev/null", "w");
     if (states < 3 || !nowhere)
         return 2;
-    make_states();
-    make_small_sheet();
-    make_full_sheet();
-    make_names();
-    make_titles();
+    make_all();
     const row rows[] = {
         {"temperature", "ns", library_temperature, listing_temperature, (double)states, 1e9},
         {"temperature, fitted outside the strips", "ns", library_single, listing_single, (double)states, 1e9},
@@ -340,17 +406,19 @@ int main(int argc, char **argv) {
          1e9},
         {"pressure, joined in a strip", "ns", library_joined_pressure, listing_joined_pressure, (double)states, 1e9},
         {"search, sheet of 3 states", "ns", library_search_small, baseline_search_small, SMALL_CALLS, 1e9},
+        {"check, fullest sheet", "µs", library_check, plain_check, FULL_CALLS, 1e6},
+        {"check, fullest sheet of version 2", "µs", library_check_remarked, plain_check_remarked, FULL_CALLS, 1e6},
+        {"check, remarks of 8 bytes", "µs", library_check_short, plain_check_short, FULL_CALLS, 1e6},
+        {"check, longest remarks", "µs", library_check_long, plain_check_long, FULL_CALLS, 1e6},
         {"search, fullest sheet", "µs", library_search_full, baseline_search_full, FULL_CALLS, 1e6},
+        {"search, fullest sheet of version 2", "µs", library_search_remarked, baseline_search_remarked, FULL_CALLS,
+         1e6},
         {"listing line, sheet of 3 states", "ns", library_line, plain_line, SMALL_CALLS, 1e9},
         {lines_title, "ms", library_lines, plain_lines, 1, 1e3},
         {list_title, "ms", library_list, plain_list, 1, 1e3},
+        {remarked_title, "ms", library_list_remarked, plain_list_remarked, 1, 1e3},
     };
-    printf("%zu temperatures, two thirds fitted, as many fitted outside the strips and joined in them, as many "
-           "entropies, and pressures as temperatures; ",
-           states);
-    printf("the fullest sheet has %u states in %zu bytes.\n", record_count(full_sheet), full_size);
-    printf("Processor time: median of %d repetitions (least to most).\n\n", REPETITIONS);
-    printf("| what | library | plain C | ratio |\n|---|---|---|---|\n");
+    print_head();
     for (size_t i = 0; i < sizeof rows / sizeof *rows; i++)
         measure(&rows[i]);
     if (argc > 2)

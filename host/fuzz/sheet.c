@@ -1,13 +1,16 @@
-/* Fuzz driver for eas_check, eas_find, eas_record_at, eas_search, eas_plot, eas_line, eas_list and eas_evaluate.
+/* Fuzz driver for eas_check, eas_find, eas_remark, eas_record_at, eas_search, eas_plot, eas_line, eas_list and
+ * eas_evaluate.
  *
  * An input is: one byte of options, one byte with the length of a spelled name, the spelled name, and a sheet.
- *   option 1  the sheet's mark, version and count are put right
- *   option 2  each record's kind is made 1, 2 or 3
- *   option 4  each record's values are brought into their ranges
- *   option 8  the spelled name is that of a record, chosen by the length byte
- *   all eight options set: records are added up to the largest sheet or just past it
+ *   option 1   the sheet's mark, version and count are put right
+ *   option 2   each record's kind is made 1, 2 or 3
+ *   option 4   each record's values are brought into their ranges
+ *   option 8   the spelled name is that of a record, chosen by the length byte
+ *   option 16  the right version is 2, not 1
+ *   all the other options set: records are added up to the largest sheet or just past it
  *
- * Sheets and records are compared with the plain C calculator, answers judged by the listing's doubles. */
+ * Sheets, records and remarks are compared with the plain C calculator, answers judged by the listing's doubles. A
+ * sheet of version 2 is compared with one that has other remarks. */
 #include <stdio.h>
 #include <stdlib.h>
 #include <string.h>
@@ -15,28 +18,22 @@
 #include "bench/baseline.h"
 #include "guard.h"
 #include "judge.h"
+#include "pair.h"
 #include "tools/limits.h"
 #include "tools/record.h"
 
 static guard sheet_guard, spelled_guard, output_guard;
 
-/* An input as the library gets it. */
-typedef struct {
-    const uint8_t *sheet, *spelled;
-    size_t n, m;
-} query;
-
-static int whole_record(const uint8_t *sheet, size_t n, size_t at) {
-    return at < n && sheet[at] > 0 && sheet[at] <= NAME_MOST && n - at >= 1u + sheet[at] + 17u;
+static unsigned count_records(const uint8_t *sheet, size_t n) {
+    unsigned count = 0;
+    for (size_t at = HEAD, size; (size = record_size(sheet, n, at)) > 0; at += size)
+        count++;
+    return count;
 }
 
-static void repair_head(uint8_t *sheet, size_t n) {
-    static const uint8_t head[] = {'E', 'A', 'S', 0, 1};
-    unsigned count = 0;
-    memcpy(sheet, head, sizeof head);
-    for (size_t at = HEAD; whole_record(sheet, n, at); at += 1u + sheet[at] + 17u)
-        count++;
-    put_number(sheet + 5, 2, count);
+static void repair_head(uint8_t *sheet, size_t n, unsigned options) {
+    memcpy(sheet, options & 16 ? "EAS\0\2" : "EAS\0\1", 5);
+    put_number(sheet + 5, 2, count_records(sheet, n));
 }
 
 static void repair_range(uint8_t *at, uint64_t least, uint64_t most) {
@@ -46,7 +43,7 @@ static void repair_range(uint8_t *at, uint64_t least, uint64_t most) {
 }
 
 static void repair_records(uint8_t *sheet, size_t n, unsigned options) {
-    for (size_t at = HEAD; whole_record(sheet, n, at); at += 1u + sheet[at] + 17u) {
+    for (size_t at = HEAD, size; (size = record_size(sheet, n, at)) > 0; at += size) {
         uint8_t *rest = sheet + at + 1 + sheet[at];
         if (options & 2 && (rest[0] < 1 || rest[0] > 3))
             rest[0] = rest[0] % 3 + 1;
@@ -60,27 +57,26 @@ static void repair_records(uint8_t *sheet, size_t n, unsigned options) {
     }
 }
 
-/* Appends records with names of two bytes until `most` is reached; returns the new length. */
+/* Appends records with names of two bytes until `most` is reached, in version 2 with remarks of up to three bytes;
+ * returns the new length. */
 static size_t enlarge(uint8_t *sheet, size_t n, size_t most) {
     static const uint8_t rest[17] = {1, 0, 0, 0, 0x17, 0x97, 0xbd, 0x18, 0x80, 0, 0, 0, 0x1e, 0x14, 0xeb, 0x8c, 0};
-    size_t at = HEAD;
-    while (whole_record(sheet, n, at))
-        at += 1u + sheet[at] + 17u;
-    for (unsigned name = 0; at + 20 <= most; name++, at += 20) {
+    size_t at = HEAD, size;
+    while ((size = record_size(sheet, n, at)) > 0)
+        at += size;
+    for (unsigned name = 0; at + (size = sheet[4] == 2 ? 21 + name % 4 : 20) <= most; name++, at += size) {
         sheet[at] = 2;
         put_number(sheet + at + 1, 2, name);
         memcpy(sheet + at + 3, rest, sizeof rest);
+        memset(sheet + at + 20, (int)(name % 4), size - 20);
     }
     return at;
 }
 
 /* The spelling of the record that `choice` picks, or nothing. */
 static size_t pick_name(const uint8_t *sheet, size_t n, uint8_t choice, uint8_t spelled[SPELLED_MOST]) {
-    unsigned count = 0;
-    for (size_t at = HEAD; whole_record(sheet, n, at); at += 1u + sheet[at] + 17u)
-        count++;
-    unsigned left = count ? choice % count : 0;
-    for (size_t at = HEAD; whole_record(sheet, n, at); at += 1u + sheet[at] + 17u)
+    unsigned count = count_records(sheet, n), left = count ? choice % count : 0;
+    for (size_t at = HEAD, size; (size = record_size(sheet, n, at)) > 0; at += size)
         if (left-- == 0)
             return baseline_spell(sheet + at + 1, sheet[at], spelled, SPELLED_MOST).length;
     return 0;
@@ -98,6 +94,18 @@ static void check_find(query q, const eas_record *found) {
     eas_text read = eas_read(q.spelled, q.m, name, sizeof name);
     require(!read.number && read.length == found->length, "a found name has its spelling's length");
     require(!memcmp(q.sheet + found->start, name, read.length), "the part of the sheet handed back holds the name");
+}
+
+/* A remark stands behind its record's values, in version 2 behind its length byte too. */
+static void check_remark(query q, const eas_record *found) {
+    eas_part remark = eas_remark(q.sheet, q.n, q.spelled, q.m), plain = baseline_remark(q.sheet, q.n, q.spelled, q.m);
+    require(remark.number == found->number, "a remark is refused exactly where its record is");
+    require(remark.number == plain.number && remark.start == plain.start && remark.length == plain.length,
+            "eas_remark is the plain search's");
+    if (remark.number)
+        return;
+    size_t behind = found->start + found->length + RECORD_REST;
+    require(remark.start == behind + (q.sheet[4] == 2) && remark.length <= q.n - remark.start, "where a remark stands");
 }
 
 static void check_mark(query q, const eas_answer *a) {
@@ -194,6 +202,7 @@ static void check_query(query q) {
     require(number == baseline_check(q.sheet, q.n), "eas_check's number is the plain check's");
     eas_record found = eas_find(q.sheet, q.n, q.spelled, q.m);
     check_find(q, &found);
+    check_remark(q, &found);
     eas_answer a = eas_search(q.sheet, q.n, q.spelled, q.m), again = eas_search(q.sheet, q.n, q.spelled, q.m);
     require(same_answer(&a, &again), "a repeated search gives the same");
     eas_answer direct = {.number = found.number};
@@ -229,9 +238,10 @@ int LLVMFuzzerTestOneInput(const uint8_t *data, size_t size) {
     size_t m = data[1], n = size - 2 - m;
     memcpy(sheet, spelled + m, n);
     if (options & 1 && n >= HEAD) {
-        if (options == 255)
-            n = enlarge(sheet, n, SHEET_MOST + (data[1] & 1) * 20u);
-        repair_head(sheet, n);
+        repair_head(sheet, n, options);
+        if ((options | 16) == 255)
+            n = enlarge(sheet, n, SHEET_MOST + (data[1] & 1) * 48u);
+        repair_head(sheet, n, options);
         repair_records(sheet, n, options);
     }
     if (options & 8) {
@@ -241,6 +251,8 @@ int LLVMFuzzerTestOneInput(const uint8_t *data, size_t size) {
     query q = {guard_take(&sheet_guard, sheet, n), guard_take(&spelled_guard, spelled, m), n, m};
     check_query(q);
     check_state(sheet, n);
+    if (n >= HEAD && n <= SHEET_MOST && sheet[3] == 0 && sheet[4] == 2)
+        check_pair(q, data, size);
     require(n == 0 || !memcmp(q.sheet, sheet, n), "no call changes the sheet");
     require(m == 0 || !memcmp(q.spelled, spelled, m), "no call changes the spelling");
     return 0;

@@ -22,8 +22,19 @@ static bool seen_earlier(const parsed_sheet *parsed, const uint8_t *sheet, const
     return false;
 }
 
+/* Reads the remark that starts behind a record's values: nothing in version 1. False where bytes are missing. */
+static bool parse_remark(eas_part *remark, uint64_t version, const uint8_t *sheet, size_t n) {
+    if (version == 1)
+        return true;
+    if (remark->start == n)
+        return false;
+    remark->length = sheet[remark->start];
+    remark->start++;
+    return n - remark->start >= remark->length;
+}
+
 /* Reads the record at *at and moves past it; gives its refusal or 0. */
-static uint32_t parse_record(parsed_sheet *out, const uint8_t *sheet, size_t n, size_t *at) {
+static uint32_t parse_record(parsed_sheet *out, uint64_t version, const uint8_t *sheet, size_t n, size_t *at) {
     if (*at == n)
         return 4;
     eas_record record = {.start = *at + 1, .length = sheet[*at]};
@@ -35,12 +46,16 @@ static uint32_t parse_record(parsed_sheet *out, const uint8_t *sheet, size_t n, 
     record.kind = rest[0];
     record.first = high_byte_first(rest + 1, 8);
     record.second = high_byte_first(rest + 9, 8);
+    eas_part remark = {.start = record.start + record.length + 17};
+    if (!parse_remark(&remark, version, sheet, n))
+        return 4;
     if (!kind_known(record.kind))
         return 6;
     if (seen_earlier(out, sheet, &record))
         return 16;
+    out->remarks[out->count] = remark;
     out->records[out->count++] = record;
-    *at = record.start + record.length + 17;
+    *at = remark.start + remark.length;
     return 0;
 }
 
@@ -49,12 +64,12 @@ static uint32_t first_refusal(parsed_sheet *out, const uint8_t *sheet, size_t n)
         return 1;
     if (n < 7 || memcmp(sheet, "EAS", 3) != 0)
         return 2;
-    if (high_byte_first(sheet + 3, 2) != 1)
+    uint64_t version = high_byte_first(sheet + 3, 2), announced = high_byte_first(sheet + 5, 2);
+    if (version != 1 && version != 2)
         return 3;
-    uint64_t announced = high_byte_first(sheet + 5, 2);
     size_t at = 7;
     for (uint64_t i = 0; i < announced; i++) {
-        uint32_t number = parse_record(out, sheet, n, &at);
+        uint32_t number = parse_record(out, version, sheet, n, &at);
         if (number != 0)
             return number;
     }
@@ -68,16 +83,30 @@ void sheet_parse(parsed_sheet *out, const uint8_t *sheet, size_t n) {
         out->count = 0;
 }
 
-eas_record sheet_find(const parsed_sheet *parsed, const uint8_t *sheet, const uint8_t *spelled, size_t m) {
+/* The refusal of a search, or 0 with the place of the record that it finds. */
+static uint32_t search(const parsed_sheet *parsed, const uint8_t *sheet, const uint8_t *spelled, size_t m,
+                       size_t *place) {
     if (parsed->number != 0)
-        return (eas_record){.number = parsed->number};
+        return parsed->number;
     read_name name = name_read(spelled, m);
     if (name.number != 0)
-        return (eas_record){.number = name.number};
-    for (size_t i = 0; i < parsed->count; i++) {
-        const eas_record *record = &parsed->records[i];
+        return name.number;
+    for (*place = 0; *place < parsed->count; ++*place) {
+        const eas_record *record = &parsed->records[*place];
         if (record->length == name.length && memcmp(sheet + record->start, name.bytes, name.length) == 0)
-            return *record;
+            return 0;
     }
-    return (eas_record){.number = 9};
+    return 9;
+}
+
+eas_record sheet_find(const parsed_sheet *parsed, const uint8_t *sheet, const uint8_t *spelled, size_t m) {
+    size_t place;
+    uint32_t number = search(parsed, sheet, spelled, m, &place);
+    return number != 0 ? (eas_record){.number = number} : parsed->records[place];
+}
+
+eas_part sheet_remark(const parsed_sheet *parsed, const uint8_t *sheet, const uint8_t *spelled, size_t m) {
+    size_t place;
+    uint32_t number = search(parsed, sheet, spelled, m, &place);
+    return number != 0 ? (eas_part){.number = number} : parsed->remarks[place];
 }

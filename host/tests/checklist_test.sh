@@ -86,6 +86,16 @@ passes_complete_sheet() {
         verdict "Given sheet" "Every other state" "PASSED at 1 state, such as plain"
 }
 
+# The same states with remarks, some of which look like names, spellings and records.
+passes_with_remarks() {
+    awk -F , 'NR == 1 { print $0 ",remark,remark_spelled" }
+        NR > 1 { print $0 (NR % 3 == 0 ? ",," : NR % 3 == 1 ? ",42," : ",,nose%2Fcap%201%01%00%00%FF") }' "$work/states.csv" \
+        > "$work/remarks.csv"
+    "$build/sheet_tool" pack -o "$work/remarks.eas" "$work/remarks.csv" &&
+        status 0 "$build/checklist" "$work/remarks.eas" && all_pass "Given sheet" &&
+        verdict "Given sheet" "Every other state" "PASSED at 1 state, such as plain"
+}
+
 # Names that are the numbers of their rows cannot tell a name from a row.
 needs_names_unlike_rows() {
     sheet "$work/rows.eas" name,pressure_Pa,density_kg_m3 1,101330,1.292 2,202660,1.292 &&
@@ -118,6 +128,17 @@ finds() {
 finds_pressures() {
     status 1 env FAULT="$1" ENTRY="$3" LETTER=P "$build/faults" "$work/complete.eas" &&
         fails_only "Shipped samples" "$2" && all_pass "Given sheet"
+}
+
+# finds_by_remarks [ENTRY]: check 1 fails, and no other, on the samples and on a sheet with remarks.
+finds_by_remarks() {
+    status 1 env FAULT=9 ENTRY="$1" "$build/faults" "$work/remarks.eas" && fails_only "Shipped samples" 1 &&
+        fails_only "Given sheet" 1
+}
+
+# The same states without remarks pass.
+passes_without_remarks() {
+    status 1 env FAULT=9 "$build/faults" "$work/complete.eas" && all_pass "Given sheet"
 }
 
 # names_cause FAULT WORDS [SHEET]: the mistake is told in words.
@@ -161,10 +182,12 @@ refuses() {
 
 expect "the edges and transitions pack to the stored sheet" packs_to_stored_sheet edges-and-transitions
 expect "the energies and pressures pack to the stored sheet" packs_to_stored_sheet energy-and-pressure
+expect "the states with remarks pack to the stored sheet" packs_to_stored_sheet with-remarks
 expect "the samples pass" passes_samples checklist
 expect "the samples pass through the shim without a fault" passes_samples faults
 expect "what a sheet lacks is told" tells_what_is_missing
 expect "a sheet with all examples passes" passes_complete_sheet
+expect "so does one with remarks" passes_with_remarks
 expect "names like their rows cannot tell" needs_names_unlike_rows
 expect "a name that was never decoded is called out" calls_out nose%2Fcap%201 nose%2Fcap%201 nose%252Fcap%25201
 expect "a name that was encoded in part is called out" calls_out nose/cap%201 nose%2Fcap%201 nose%2Fcap%25201
@@ -183,6 +206,11 @@ for fault in 3 4 5 7 8; do
         expect "fault $fault in pressures is found, by ${entry:-every entry}" finds_pressures $fault $due $entry
     done
 done
+for entry in "" search plot line list; do
+    expect "an answer that depends on remarks is found, by ${entry:-every entry}" finds_by_remarks $entry
+done
+expect "without remarks it is right" passes_without_remarks
+expect "remarks that change an answer are named" names_cause 9 "the sheet's remarks change what is shown)" "$work/remarks.eas"
 expect "a neighbour's curve is named" names_cause 3 "by the curve of the neighbouring density range)"
 expect "a missing join is named" names_cause 7 "by the curve of one density range, not joined between two)"
 expect "a lost sign is named" names_cause 4 "the two curves of the transition are weighed the wrong way round)"

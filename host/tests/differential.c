@@ -1,7 +1,8 @@
-/* Compares the library with the reference on edge and random inputs.
+/* Compares the library with the reference on edge and random inputs, and its answers to sheets that differ in remarks.
  *
  * differential [seed [count]]: count is the number of sheets and of spellings, 200,000 by default; of states there are
- * half as many again. A case depends on the seed and its index alone, so that a failure is repeated by giving its seed.
+ * half as many again, of pairs of sheets a quarter. A case depends on the seed and its index alone, so that a failure
+ * is repeated by giving its seed.
  */
 #include "differential.h"
 
@@ -15,6 +16,7 @@ int main(int count, char **arguments) {
     tally_start("differential", seed);
     compare_states(seed, cases);
     compare_sheets(seed, cases);
+    compare_remarks(seed, cases / 4);
     compare_spellings(seed, cases);
     return tally_end();
 }

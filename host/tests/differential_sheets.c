@@ -12,10 +12,10 @@
 #include "sheets.h"
 #include "tally.h"
 
-enum { SHEETS_PART = 22, LARGE_EVERY = 1000, EVERY_RECORD_EVERY = 16, NUMBERS = 18, ROOM_MAX = 512 };
+enum { SHEETS_PART = 22, LARGE_EVERY = 1000, EVERY_RECORD_EVERY = 16, NUMBERS = 18, ROOM_MAX = 512, NO_REMARK = 256 };
 
 static lent_buffer sheet_lent, spelling_lent, line_lent, list_lent, listing_lent;
-static uint64_t sheets_by_number[NUMBERS], searches_by_number[NUMBERS];
+static uint64_t sheets_by_number[3][NUMBERS], searches_by_number[NUMBERS], remarks_by_length[NO_REMARK + 1];
 
 /* One case: what was lent, and where it stands. */
 typedef struct {
@@ -48,6 +48,24 @@ static void compare_record(const search_case *c, const char *call, const eas_rec
 
 static void compare_find(const search_case *c, const eas_record *expected) {
     compare_record(c, "eas_find", expected, eas_find(c->at, c->sheet->n, c->spelled, c->spelling->n));
+}
+
+/* 1 or 2, or 0 for neither. */
+static int version_of(const tried_sheet *sheet) {
+    bool known = sheet->n >= 5 && sheet->bytes[3] == 0 && (sheet->bytes[4] == 1 || sheet->bytes[4] == 2);
+    return known ? sheet->bytes[4] : 0;
+}
+
+static void compare_remark(const search_case *c, const parsed_sheet *parsed) {
+    eas_part expected = sheet_remark(parsed, c->sheet->bytes, c->spelling->bytes, c->spelling->n);
+    eas_part got = eas_remark(c->at, c->sheet->n, c->spelled, c->spelling->n);
+    bool same = got.number == expected.number && got.start == expected.start && got.length == expected.length;
+    remarks_by_length[expected.number != 0 || version_of(c->sheet) == 1 ? NO_REMARK : expected.length]++;
+    if (tally_check(same, "eas_remark: expected number %" PRIu32 " at %zu length %zu", expected.number, expected.start,
+                    expected.length))
+        return;
+    tally_note("got number %" PRIu32 " at %zu length %zu", got.number, got.start, got.length);
+    show(c);
 }
 
 /* The record at a place, or a refusal: the sheet's, then 9. */
@@ -157,6 +175,7 @@ static void compare_case(search_case *c, random_source *r, const parsed_sheet *p
     if (c->spelling->n == 0 && random_below(r, 2))
         c->spelled = NULL;
     compare_find(c, &found);
+    compare_remark(c, parsed);
     eas_answer answer = compare_search(c, &found);
     compare_plot(c, &answer);
     compare_line(c, r, &answer);
@@ -176,7 +195,7 @@ static void compare_sheet(random_source *r, const tried_sheet *sheet, bool every
     uint32_t number = eas_check(c.at, sheet->n);
     if (!tally_check(number == parsed.number, "eas_check: expected %" PRIu32 ", got %" PRIu32, parsed.number, number))
         show(&c);
-    sheets_by_number[parsed.number]++;
+    sheets_by_number[version_of(sheet)][parsed.number]++;
     compare_places(&c, r, &parsed, every_record);
     random_list(&list, r, &parsed, sheet);
     compare_listing(&c, r, &parsed, &list);
@@ -192,8 +211,10 @@ static void compare_sheet(random_source *r, const tried_sheet *sheet, bool every
 static void compare_edge_lengths(random_source *r, tried_sheet *sheet) {
     static const size_t lengths[] = {0,  1,  2,     3,     4,     5,     6,     7,      8,
                                      26, 65, 65534, 65535, 65536, 65537, 65538, 100000, SHEET_ROOM};
-    static const char starts[][9] = {"EAS\0\1\0\0", "EAS\0\1\0\1\1", "EAS\0\1\0\1\x28", "EAS\0\2\0\0",
-                                     "EAT\0\1\0\0", "EAS\1\1\0\0",   "EAS\0\1\xff\xff", "EAS\0\1\0\2\1"};
+    static const char starts[][9] = {"EAS\0\1\0\0", "EAS\0\1\0\1\1",   "EAS\0\1\0\1\x28", "EAS\0\3\0\0",
+                                     "EAT\0\1\0\0", "EAS\1\1\0\0",     "EAS\0\1\xff\xff", "EAS\0\1\0\2\1",
+                                     "EAS\0\2\0\0", "EAS\0\2\0\1\1",   "EAS\0\2\0\1\x28", "EAS\1\2\0\0",
+                                     "EAT\0\2\0\0", "EAS\0\2\xff\xff", "EAS\0\2\0\2\1",   "EAS\0\0\0\0"};
     for (size_t i = 0; i < sizeof lengths / sizeof lengths[0]; i++) {
         for (size_t j = 0; j < sizeof starts / sizeof starts[0]; j++) {
             tally_case("edge length", 100 * i + j);
@@ -213,11 +234,36 @@ static void compare_edge_lists(random_source *r, tried_sheet *sheet) {
     for (int i = 0; i < 2 * LIST_EDGES; i++) {
         tally_case("edge list", (uint64_t)i);
         sheet->n = 7;
-        memcpy(sheet->bytes, i % 2 == 0 ? "EAS\0\1\0\0" : "EAS\0\2\0\0", 7);
+        memcpy(sheet->bytes, i % 2 == 0 ? "EAS\0\1\0\0" : "EAS\0\3\0\0", 7);
         sheet_parse(&parsed, sheet->bytes, sheet->n);
         edge_list(&list, i / 2);
         search_case c = {.sheet = sheet, .spelling = &spelling, .at = lent_input(&sheet_lent, sheet->bytes, sheet->n)};
         compare_listing(&c, r, &parsed, &list);
+    }
+}
+
+/* A sheet of version 2 with remarks of 0, 1, 255 and 19 bytes, the last one a record, cut at every byte, with every
+ * count up to one too many. */
+static void compare_cuts(random_source *r, tried_sheet *sheet) {
+    static const uint8_t record[] = "\1a\1\0\0\0\x17\x97\xbd\x18\x80\0\0\0\x1e\x14\xeb\x8c\0";
+    static const uint8_t lengths[] = {0, 1, 255, 19};
+    memcpy(sheet->bytes, "EAS\0\2\0\0", 7);
+    sheet->n = 7;
+    for (size_t i = 0; i < sizeof lengths; i++) {
+        uint8_t *to = sheet->bytes + sheet->n;
+        memcpy(to, record, 19);
+        to[1] = (uint8_t)("ab\0c"[i]);
+        to[19] = lengths[i];
+        for (size_t j = 0; j < lengths[i]; j++)
+            to[20 + j] = i < 3 ? (uint8_t)random_bits(r) : record[j];
+        sheet->n += 20u + lengths[i];
+    }
+    size_t whole = sheet->n;
+    for (size_t i = 0; i < (whole + 1) * 6; i++) {
+        tally_case("cut", i);
+        sheet->n = i / 6;
+        sheet->bytes[6] = (uint8_t)(i % 6);
+        compare_sheet(r, sheet, true);
     }
 }
 
@@ -256,7 +302,9 @@ static void check_numbers(const char *title, const uint64_t *counts, const uint3
 }
 
 void compare_sheets(uint64_t seed, uint64_t count) {
-    static const uint32_t of_sheets[] = {0, 1, 2, 3, 4, 5, 6, 16}, of_searches[] = {0, 7, 8, 9, 10, 11, 12, 13, 17};
+    static const uint32_t of_sheets[] = {0, 1, 2, 4, 5, 6, 16}, of_others[] = {1, 2, 3};
+    static const uint32_t of_searches[] = {0, 7, 8, 9, 10, 11, 12, 13, 17};
+    static const uint32_t of_remarks[] = {0, 1, 2, 19, 254, 255};
     static tried_sheet sheet;
     random_source edges = random_case(seed, SHEETS_PART, count);
     lent_open(&sheet_lent, SHEET_ROOM);
@@ -267,6 +315,7 @@ void compare_sheets(uint64_t seed, uint64_t count) {
     compare_printed_listing();
     compare_edge_lengths(&edges, &sheet);
     compare_edge_lists(&edges, &sheet);
+    compare_cuts(&edges, &sheet);
     for (uint64_t i = 0; i < count; i++) {
         random_source r = random_case(seed, SHEETS_PART, i);
         tally_case("random sheet", i);
@@ -274,6 +323,9 @@ void compare_sheets(uint64_t seed, uint64_t count) {
         compare_sheet(&r, &sheet, i % EVERY_RECORD_EVERY == 1);
     }
     tally_case("reach of sheets", 0);
-    check_numbers("sheets by number", sheets_by_number, of_sheets, 8);
+    check_numbers("sheets of version 1 by number", sheets_by_number[1], of_sheets, 7);
+    check_numbers("sheets of version 2 by number", sheets_by_number[2], of_sheets, 7);
+    check_numbers("sheets of another version by number", sheets_by_number[0], of_others, 3);
     check_numbers("searches of accepted sheets by number", searches_by_number, of_searches, 9);
+    check_numbers("remarks of version 2 by length", remarks_by_length, of_remarks, 6);
 }

@@ -11,6 +11,7 @@
  *   6  a perfect gas is a microkelvin too hot, for the states that no check looks at
  *   7  fits are not joined: each has the polynomials of its own density's band; check 3 must find it
  *   8  the ends of a joined pressure have the densities of the strip's ends, as in the listing; check 3 must find it
+ *   9  no state that has a remark is found; check 1 must find it
  */
 #include <ctype.h>
 #include <math.h>
@@ -158,6 +159,8 @@ static eas_answer faulty_value(eas_answer a) {
 static eas_answer faulty_answer(const uint8_t *sheet, size_t n, const uint8_t *spelled, size_t m) {
     eas_answer a = __real_eas_search(sheet, n, spelled, m);
     if (fault() == 1 && memchr(spelled, '%', m))
+        return (eas_answer){.number = 9};
+    if (fault() == 9 && eas_remark(sheet, n, spelled, m).length > 0)
         return (eas_answer){.number = 9};
     if (fault() == 2)
         return row_answer(sheet, n, spelled, m, a);

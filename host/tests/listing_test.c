@@ -87,13 +87,13 @@ static void compare(bool has_file) {
 
 /* Lists at and beyond 65,536 bytes, of one long line and of short ones, with good, bad and missing sheets. */
 static void compare_edges(void) {
-    static const uint8_t empty_sheet[] = "EAS\0\1\0\0", old_sheet[] = "EAS\0\2\0\0";
-    for (int i = 0; i < 3 * LIST_EDGES; i++) {
+    static const char heads[][8] = {"EAS\0\1\0\0", "EAS\0\3\0\0", "EAS\0\2\0\0"};
+    for (int i = 0; i < 4 * LIST_EDGES; i++) {
         tally_case("edge listing", (uint64_t)i);
         sheet.n = 7;
-        memcpy(sheet.bytes, i % 3 == 1 ? old_sheet : empty_sheet, 7);
-        edge_list(&list, i / 3);
-        compare(i % 3 != 2);
+        memcpy(sheet.bytes, heads[i % 4 % 3], 7);
+        edge_list(&list, i / 4);
+        compare(i % 4 != 3);
     }
     list.n = 0;
     compare(true);

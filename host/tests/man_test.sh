@@ -36,7 +36,7 @@ sed -n 's/^ *return "\(.*\)";$/\1/p' include/airstate.h | grep -v -e '^not refus
 while read -r reason; do
     expect "airstate(3) has: $reason" says man/airstate.3 "$reason"
 done < "$work/reasons"
-for heading in name spelled kind first density $(sed -n 's/.*"\([a-z]*_[A-Za-z_0-9]*\)", [0-9]*};/\1/p' host/tools/kinds.c | grep -v -e temperature -e entropy); do
+for heading in name spelled kind first density remark remark_spelled $(sed -n 's/.*"\([a-z]*_[A-Za-z_0-9]*\)", [0-9]*};/\1/p' host/tools/kinds.c | grep -v -e temperature -e entropy); do
     expect "airstate-sheet(1) has the heading $heading" says man/airstate-sheet.1 "$heading"
 done
 for tool in sheet_tool plot checklist; do

@@ -152,6 +152,67 @@ expect "3,000 states are drawn" "$plot" "$work/many.eas" "$work/many.svg"
 expect "each of 3,000 names" names_all "$work/many.eas" "$work/many.svg"
 expect "the marks without a number are told" sh -c "grep -q 'marks stand too close for one' '$work/many.svg'"
 
+# Remarks stand below their names, grey and smaller, in as many lines as they need; a legend says so.
+remarked=$work/with-remarks.svg
+remarks() {
+    grep '<text .*font-size="9" fill="#737373"' "$1" > "$work/remarks.svg"
+    texts "$work/remarks.svg"
+}
+told_apart() {
+    remarks "$remarked" | grep -qxF "$1"
+}
+below_name() {
+    texts "$remarked" | grep -A 4 -xF "$1" | tail -n 1 | grep -xF "$2"
+}
+expect "a remark" told_apart "shot 1412, driver helium"
+expect "quotes in a remark" told_apart 'gauge says "ok", trace says no'
+expect "a remark in UTF-8" told_apart "Düse 2; µ-switch late"
+expect "a remark stands below its name" below_name "shot 1412/reservoir" "shot 1412, driver helium"
+expect "a remark of a state without a point" told_apart "arc went out: do not use"
+expect "a remark that is no text is spelled" sh -c "sed -n 's/.*<text[^>]*>\(.*\)<.text>.*/\1/p' '$remarked' | tr -d '\n' |
+    grep -qF '%02K7%00%FF%1F%8B%20pitot%20rake%2C%20as%20its%20logger%20wrote%20it (spelled)'"
+whole_remark() {
+    "$tool" unpack samples/with-remarks.eas | sed -n 's/.*"\(second burst.*\)",/\1/p' > "$work/long"
+    test "$(tr -d '\n' < "$work/long" | wc -c)" -eq 255 && remarks "$remarked" | tr -d '\n' | grep -qF "$(cat "$work/long")"
+}
+expect "a remark of 255 bytes is shown whole" whole_remark
+expect "a mark's title has its remark" grep -q \
+    '<title>1  shot 1412/reservoir: .*; shot 1412, driver helium</title>' "$remarked"
+expect "remarks are explained" shows "$remarked" "in the list: the remark of the state above"
+expect "where there is none they are not" lacks "$work/sample.svg" "in the list: the remark of the state above"
+shapes() {
+    grep -E '^<(circle|polygon|polyline)' "$1"
+}
+moves_no_mark() {
+    "$tool" unpack --si samples/with-remarks.eas | sed 's/remark/unread/g' | "$tool" pack 2> "$work/notes" > "$work/bare.eas" &&
+        "$plot" "$work/bare.eas" "$work/bare.svg" && shapes "$work/bare.svg" > "$work/bare" &&
+        test -s "$work/bare" && shapes "$remarked" | cmp - "$work/bare" && ! remarks "$work/bare.svg" | grep driver
+}
+expect "a remark moves no mark" moves_no_mark
+
+# The most remarks: none is left out, as text and spelled.
+fullest() {
+    {
+        echo "name,kind,first,density,$1"
+        seq 10 245 | awk -v remark="$2" '{ printf "%d,1,%d,1000000000,%s\n", $1, 1e10 + 1e8 * $1, remark }'
+    } | "$tool" pack > "$work/fullest.eas" && "$plot" "$work/fullest.eas" "$work/fullest.svg" "$work/fullest.png"
+}
+counts() {
+    test "$(remarks "$work/fullest.svg" | tr -cd "$1" | wc -c)" -eq $((236 * $2))
+}
+expect "236 remarks of 255 wide letters are drawn" fullest remark "$(printf '%0255d' 0 | tr 0 W)"
+expect "each of their letters" counts W 255
+expect "236 remarks of 255 bytes that are no text are drawn" fullest remark_spelled "$(printf '%0255d' 0 | sed 's/0/%FF/g')"
+expect "each of their bytes" counts F 510
+{
+    echo name,kind,first,density,remark
+    seq 1 2776 | awk '{ printf "%d,1,%d,%d,Q\n", $1, 5e10 + 3e7 * $1, 1e9 * (1 + $1 % 97) }'
+} | "$tool" pack > "$work/many.eas"
+expect "2,776 states with short remarks are drawn" "$plot" "$work/many.eas" "$work/many.svg"
+expect "each of their remarks" test "$(remarks "$work/many.svg" | grep -cx Q)" -eq 2776
+expect "each of their names" names_all "$work/many.eas" "$work/many.svg"
+expect "none stands at the page's corner" sh -c "! grep -q 'y=\"0.0\"' '$work/many.svg' '$work/fullest.svg'"
+
 # Names of every sort.
 printf 'name,spelled,pressure_Pa,density_kg_m3\n"<a> & ""b""",,1e5,1\nD\303\274se 1,,1e5,2\n,%%FF,1e5,3\n,a%%00b,1e5,4\n,%%20,1e5,5\n' |
     "$tool" pack > "$work/odd.eas"

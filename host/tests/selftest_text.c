@@ -26,8 +26,8 @@ static const struct {
     {BYTES(""), 2, 0},
     {BYTES("EAS\0\1\0"), 2, 0},
     {BYTES("EAT\0\1\0\0"), 2, 0},
-    {BYTES("eas\0\2\0\0"), 2, 0},
-    {BYTES("EAS\0\2\0\0"), 3, 0},
+    {BYTES("eas\0\3\0\0"), 2, 0},
+    {BYTES("EAS\0\3\0\0"), 3, 0},
     {BYTES("EAS\1\1\0\0"), 3, 0},
     {BYTES("EAS\1\0\0\1\0"), 3, 0},
     {BYTES("EAS\0\1\0\1"), 4, 0},
@@ -42,6 +42,37 @@ static const struct {
     {BYTES("EAS\0\1\0\3\1A\1" VALUES "\1A\1" VALUES "\0"), 16, 0},
     {BYTES("EAS\0\1\0\1\1A\1" VALUES "\0"), 4, 0},
     {BYTES("EAS\0\1\1\0\1A\1" VALUES), 4, 0},
+    {BYTES("EAS\0\0\0\0"), 3, 0},
+    {BYTES("EAS\2\0\0\0"), 3, 0},
+    {BYTES("EAS\2\2\0\0"), 3, 0},
+    {BYTES("EAS\0\2\0"), 2, 0},
+    {BYTES("EAT\0\2\0\0"), 2, 0},
+    {BYTES("EAS\0\2\0\0"), 0, 0},
+    {BYTES("EAS\0\2\0\0\0"), 4, 0},
+    {BYTES("EAS\0\2\0\1"), 4, 0},
+    {BYTES("EAS\0\2\0\1\0"), 5, 0},
+    {BYTES("EAS\0\2\0\1\x29"), 5, 0},
+    {BYTES("EAS\0\2\0\1\x28"), 4, 0},
+    {BYTES("EAS\0\2\0\1\1A\1" VALUES), 4, 0},
+    {BYTES("EAS\0\2\0\1\1A\1" VALUES "\0"), 0, 1},
+    {BYTES("EAS\0\2\0\1\1A\1" VALUES "\1x"), 0, 1},
+    {BYTES("EAS\0\2\0\1\1A\1" VALUES "\1"), 4, 0},
+    {BYTES("EAS\0\2\0\1\1A\1" VALUES "\2x"), 4, 0},
+    {BYTES("EAS\0\2\0\1\1A\1" VALUES "\xffx"), 4, 0},
+    {BYTES("EAS\0\2\0\1\1A\1" VALUES "\1xy"), 4, 0},
+    {BYTES("EAS\0\2\0\1\1A\4" VALUES), 4, 0},
+    {BYTES("EAS\0\2\0\1\1A\4" VALUES "\1"), 4, 0},
+    {BYTES("EAS\0\2\0\1\1A\4" VALUES "\1x"), 6, 0},
+    {BYTES("EAS\0\2\0\2\1A\1" VALUES "\0\1A\1" VALUES), 4, 0},
+    {BYTES("EAS\0\2\0\2\1A\1" VALUES "\0\1A\1" VALUES "\1"), 4, 0},
+    {BYTES("EAS\0\2\0\2\1A\1" VALUES "\0\1A\1" VALUES "\1x"), 16, 0},
+    {BYTES("EAS\0\2\0\2\1A\1" VALUES "\0\1A\4" VALUES "\1x"), 6, 0},
+    {BYTES("EAS\0\2\0\2\1A\1" VALUES "\0\1B\1" VALUES "\0"), 0, 2},
+    {BYTES("EAS\0\2\0\1\1A\1" VALUES "\23\1B\1" VALUES), 0, 1},
+    {BYTES("EAS\0\2\0\2\1A\1" VALUES "\23\1B\1" VALUES), 4, 0},
+    {BYTES("EAS\0\2\0\2\1A\1" VALUES "\23\1B\1" VALUES "\1B\2" VALUES "\0"), 0, 2},
+    {BYTES("EAS\0\2\0\2\1A\1" VALUES "\23\1B\1" VALUES "\1A\2" VALUES "\0"), 16, 0},
+    {BYTES("EAS\0\1\0\1\1A\1" VALUES "\1x"), 4, 0},
 };
 
 static parsed_sheet parsed;
@@ -75,6 +106,34 @@ static void test_finding(void) {
     tally_check(sheet_find(&parsed, sheets[2].bytes, BYTES("")).number == 8, "empty spelling");
     sheet_parse(&parsed, sheets[8].bytes, sheets[8].n);
     tally_check(sheet_find(&parsed, sheets[8].bytes, BYTES("A%")).number == 3, "the sheet comes before the name");
+}
+
+/* Both versions, with a second record behind a remark of 0, 3 and 255 bytes. */
+static void test_remarks(void) {
+    static const size_t lengths[] = {0, 3, 255};
+    static uint8_t sheet[400] = "EAS\0\2\0\2\1A\1" VALUES;
+    for (size_t i = 0; i < LENGTH(lengths); i++) {
+        size_t length = lengths[i], n = 27 + length;
+        tally_case("remark", i);
+        sheet[26] = (uint8_t)length;
+        memset(sheet + 27, 1, length);
+        memcpy(sheet + n, "\1B\2" VALUES "\2uv", 22);
+        sheet_parse(&parsed, sheet, n + 22);
+        eas_part first = sheet_remark(&parsed, sheet, BYTES("A")), second = sheet_remark(&parsed, sheet, BYTES("%42"));
+        tally_check(first.number == 0 && first.start == 27 && first.length == length, "first remark");
+        tally_check(second.number == 0 && second.start == n + 20 && second.length == 2, "second remark");
+        tally_check(sheet_find(&parsed, sheet, BYTES("B")).start == n + 1, "a name behind a remark");
+        eas_part absent = sheet_remark(&parsed, sheet, BYTES("C"));
+        tally_check(absent.number == 9 && absent.start == 0 && absent.length == 0, "no such name");
+    }
+    tally_check(sheet_remark(&parsed, sheet, BYTES("A%")).number == 7, "wrong spelling");
+    tally_check(sheet_remark(&parsed, sheet, BYTES("")).number == 8, "empty spelling");
+    sheet_parse(&parsed, sheets[2].bytes, sheets[2].n);
+    eas_part none = sheet_remark(&parsed, sheets[2].bytes, BYTES("A"));
+    tally_check(none.number == 0 && none.start == 26 && none.length == 0, "behind the record in version 1");
+    sheet_parse(&parsed, sheets[8].bytes, sheets[8].n);
+    none = sheet_remark(&parsed, sheets[8].bytes, BYTES("A%"));
+    tally_check(none.number == 3 && none.start == 0 && none.length == 0, "the sheet comes before the name");
 }
 
 #define TEN "ABCDEFGHIJ"
@@ -153,6 +212,7 @@ void test_texts(void) {
     test_sheets();
     test_sheet_lengths();
     test_finding();
+    test_remarks();
     test_names();
     test_lines_and_marks();
 }

@@ -60,8 +60,8 @@ right "columns in another order" 'density_kg_m3,name,pressure_Pa\n1,a,2\n' 'a,1,
 right "headings in capitals" 'Name,PRESSURE_PA,Density_kg_m3\na,2,1\n' 'a,1,2000000,100000000000\n'
 right "comments above the heading" '# a run\n\n# of today\n'$si'a,1,1\n' 'a,1,1000000,100000000000\n'
 right "comments below it, where names are spelled" 'spelled,'$whole'# x\na,1,2,3\n' 'a,1,2,3\n'
-noted "a column that is not read" 'name,remark,pressure_Pa,density_kg_m3\na,x,1,1\n' 'a,1,1000000,100000000000\n' \
-    "line 1: note: the column 'remark' is not read"
+noted "a column that is not read" 'name,gauge,pressure_Pa,density_kg_m3\na,x,1,1\n' 'a,1,1000000,100000000000\n' \
+    "line 1: note: the column 'gauge' is not read"
 noted "no states" $si '' 'note: there are no states below the heading'
 
 # Names.
@@ -100,6 +100,53 @@ right "nothing and the most" 'name,'$whole'a,1,0,18446744073709551615\n' 'a,1,0,
 right "the most in SI" $si'a,18446744073709.551615,184467440.73709551615\n' \
     'a,1,18446744073709551615,18446744073709551615\n'
 
+# Remarks. The version is 2 only where one is not empty.
+version() {
+    test "$(od -An -t u1 -j 3 -N 2 "$work/sheet.eas" | tr -d ' \n')" = "0$1"
+}
+remarked='name,'${whole%\\n}',remark\n' remarked_si=${si%\\n}',remark\n'
+right "a remark" $remarked_si'a,1,1,"shot 1412, driver helium"\n' 'a,1,1000000,100000000000,"shot 1412, driver helium"\n'
+expect "a remark makes version 2" version 2
+right "an empty remark among others" $remarked'a,1,2,3,x\nb,1,2,3,\nc,1,2,3\nd,1,2,3,y z\n' \
+    'a,1,2,3,x\nb,1,2,3,\nc,1,2,3,\nd,1,2,3,y z\n'
+right "a remark in the last row alone" $remarked'a,1,2,3,\nbc,2,4,5,\nd,3,6,7,late\n' \
+    'a,1,2,3,\nbc,2,4,5,\nd,3,6,7,late\n'
+expect "the last row makes version 2" version 2
+right "empty remarks alone" $remarked'a,1,2,3,\nb,1,2,3,""\n' 'a,1,2,3\nb,1,2,3\n'
+expect "empty remarks alone are version 1" version 1
+right "a remark in the first column" 'Remark,name,'$whole'"#1, ""x""",a,1,2,3\n' 'a,1,2,3,"#1, ""x"""\n'
+right "a remark that begins with #, before spelled names" 'remark,spelled,'$whole'#1,a,1,2,3\n#2,b,1,2,3\n' \
+    'a,1,2,3,"#1"\nb,1,2,3,"#2"\n'
+right "comments where a remark comes last" 'spelled,'${whole%\\n}',remark\n# x\na,1,2,3,#1\n' 'a,1,2,3,"#1"\n'
+right "spaces around a remark do not count" $remarked'a,1,2,3,  x y  \n' 'a,1,2,3,x y\n'
+right "quoted ones do" $remarked'a,1,2,3," x "\n' 'a,1,2,3," x "\n'
+right "semicolons in a remark" $remarked'a,1,2,3,x;y\n' 'a,1,2,3,"x;y"\n'
+right "a remark in UTF-8" $remarked'a,1,2,3,D\303\274se\n' 'a,1,2,3,D\303\274se\n'
+right "a percent form in a remark" $remarked'a,1,2,3,50%%20\n' 'a,1,2,3,50%%20\n'
+right "a newline in a remark" $remarked'a,1,2,3,"x\ny"\nb,1,2,3,z\n' 'a,1,2,3,,x%%0Ay\nb,1,2,3,z,\n'
+right "carriage return and newline in a remark" $remarked'a,1,2,3,"x\r\ny"\r\n' 'a,1,2,3,x%%0D%%0Ay\n'
+right "a remark that is no text" $remarked'a,1,2,3,D\374\000se\n' 'a,1,2,3,D%%FC%%00se\n'
+right "spelled remarks" 'name,'${whole%\\n}',remark_spelled\na,1,2,3,%%c3%%BC%%41~\nb,1,2,3,%%00\n' \
+    'a,1,2,3,\303\274A~,\nb,1,2,3,,%%00\n'
+most=$(printf '%0255d' 0)
+right "255 bytes" $remarked'a,1,2,3,'$most'\n' 'a,1,2,3,'$most'\n'
+forms() {
+    seq "$1" | sed 's/.*/%%FF/' | tr -d '\n'
+}
+right "255 spelled bytes" 'name,'${whole%\\n}',remark_spelled\na,1,2,3,'$(forms 255)'\n' 'a,1,2,3,'$(forms 255)'\n'
+every_byte() {
+    seq 0 254 | awk '{ printf "%%%%%02X", $1 }'
+}
+text 'name,'${whole%\\n}',remark_spelled\na,1,2,3,'$(every_byte)'\nb,1,2,3,%%FF%%61\n'
+keeps_every_byte() {
+    "$tool" pack "$work/text.csv" > "$work/bytes.eas" && "$tool" unpack "$work/bytes.eas" | "$tool" pack |
+        cmp - "$work/bytes.eas" && tail -c +28 "$work/bytes.eas" | head -c 255 | od -An -v -t u1 | tr -s ' ' '\n' |
+        grep . | cmp - "$work/counted"
+}
+seq 0 254 > "$work/counted"
+expect "every byte comes back" keeps_every_byte
+right "a remark and a repeated word" $remarked'a,1,2,3,a\nb,1,2,3,a\n' 'a,1,2,3,a\nb,1,2,3,a\n'
+
 # Wrong texts.
 wrong "empty" '' 'empty: a heading and states are wanted'
 wrong "blank" '\n \n# x\n' 'empty: a heading and states are wanted'
@@ -122,6 +169,20 @@ wrong "a space in a spelling" 'spelled,'$whole'a b,1,2,3\n' \
 wrong "raw and spelled" 'name,spelled,'$whole'a,a,1,2,3\n' 'line 2: both a name and a spelled name are given'
 wrong "a name twice" $si'a b,1,1\nc,1,1\n"a b",1,1\n' \
     'line 4: refusal 16: the name was seen earlier in the sheet, on line 2'
+wrong "a name twice, with remarks" $remarked'a,1,2,3,x\nb,1,2,3,y\nc,1,2,3,\nb,1,2,3,z\n' \
+    'line 5: refusal 16: the name was seen earlier in the sheet, on line 3'
+wrong "256 bytes of a remark" $remarked'a,1,2,3,1'$most'\n' \
+    "line 2: the remark has 256 bytes, and 255 is the most: '1$(printf '%059d' 0)…'"
+wrong "256 spelled bytes" 'name,'${whole%\\n}',remark_spelled\na,1,2,3,'$(forms 256)'\n' \
+    "line 2: the remark has 256 bytes, and 255 is the most: '$(forms 20 | tr -s %)…'"
+wrong "a remark both raw and spelled" 'name,'${whole%\\n}',remark,remark_spelled\na,1,2,3,x,x\n' \
+    'line 2: both a remark and a spelled remark are given'
+for spelled in x%%2 %% %%4 %%zz a%%%%41 'x y' '\303\274'; do
+    wrong "a wrong spelling of a remark" 'name,'${whole%\\n}',remark_spelled\na,1,2,3,'"$spelled"'\n' \
+        "line 2: remark_spelled: refusal 7: a byte or a percent form of the spelled name is wrong: '$(printf "$spelled")'"
+done
+wrong "a remark without a state" $remarked',,,,x\n' 'line 2: refusal 8: the name has no bytes or over 40: it is empty'
+wrong "a remark's heading twice" 'name,'${whole%\\n}',remark,Remark\n' "line 1: the heading 'Remark' stands twice"
 wrong "an unknown kind" 'name,'$whole'a,4,2,3\n' "line 2: refusal 6: the kind is unknown: '4'"
 wrong "an unknown kind in words" 'name,'$whole'a,energy,2,3\n' "line 2: refusal 6: the kind is unknown: 'energy'"
 wrong "a kind of 257" 'name,'$whole'a,257,2,3\n' "line 2: refusal 6: the kind is unknown: '257'"
@@ -170,15 +231,49 @@ echo 3978,1,1,1 >> "$work/text.csv"
 ends "one state more" 1 "sheet_tool: standard input: line 2980: refusal 1: the sheet is over 65,536 bytes" \
     "$tool" pack < "$work/text.csv"
 
+# With remarks every record has a byte more: 2,849 of 23 bytes, and a remark of 2.
+fills_late() {
+    { echo name,kind,first,density,remark; seq 1000 3847 | sed 's/$/,1,1,1,/'; echo "3848,1,1,1,xy"; } > "$work/text.csv"
+    "$tool" pack < "$work/text.csv" > "$work/full.eas" && test "$(wc -c < "$work/full.eas")" -eq 65536 &&
+        "$tool" unpack "$work/full.eas" | "$tool" pack | cmp - "$work/full.eas"
+}
+expect "the fullest sheet with a remark, in its last row" fills_late
+too_long="refusal 1: the sheet is over 65,536 bytes"
+sed '$s/$/z/' "$work/text.csv" > "$work/longer.csv"
+ends "a byte more in its remark" 1 \
+    "sheet_tool: standard input: line 2850: $too_long; this first remark makes each state a byte longer" \
+    "$tool" pack < "$work/longer.csv"
+sed -e '2s/$/x/' -e '$s/y$//' "$work/text.csv" > "$work/moved.csv"
+expect "the fullest with two remarks" "$tool" pack -o "$work/full.eas" "$work/moved.csv"
+sed '$s/$/z/' "$work/moved.csv" > "$work/longer.csv"
+ends "a byte more in the last of two" 1 "sheet_tool: standard input: line 2850: $too_long" \
+    "$tool" pack < "$work/longer.csv"
+{ echo name,kind,first,density,remark; seq 1000 3977 | sed 's/$/,1,1,1,/'; } > "$work/text.csv"
+ends "the fullest without remarks has no room for one" 1 \
+    "sheet_tool: standard input: line 2979: $too_long; this first remark makes each state a byte longer" \
+    sh -c "sed '\$s/\$/x/' '$work/text.csv' | '$tool' pack"
+fills_by_remarks() {
+    { echo name,kind,first,density,remark; seq 10 245 | sed "s/$/,1,1,1,$most/"; } > "$work/text.csv"
+    "$tool" pack < "$work/text.csv" > "$work/full.eas" &&
+        test "$(wc -c < "$work/full.eas")" -eq "$((7 + 90 * 276 + 146 * 277))" &&
+        "$tool" unpack --si "$work/full.eas" | "$tool" pack | cmp - "$work/full.eas"
+}
+expect "the most remarks of 255 bytes" fills_by_remarks
+echo "246,1,1,1,$most" >> "$work/text.csv"
+ends "one state more with its remark" 1 "sheet_tool: standard input: line 238: $too_long" "$tool" pack < "$work/text.csv"
+
 # Sheets that are none.
 sheet() {
     printf "$2" > "$work/wrong.eas"
     ends "$1" 1 "sheet_tool: $work/wrong.eas: $3" "$tool" unpack "$work/wrong.eas"
 }
-record='\001a\001\0\0\0\0\0\0\0\001\0\0\0\0\0\0\0\001'
+values='\0\0\0\0\0\0\0\001\0\0\0\0\0\0\0\001'
+record='\001a\001'$values
 sheet "an empty file is no sheet" '' "refusal 2: not a sheet: under 7 bytes, or it does not begin with EAS"
 sheet "a text is no sheet" 'name,kind\n' "refusal 2: not a sheet: under 7 bytes, or it does not begin with EAS"
-sheet "version 2" 'EAS\0\002\0\0' "refusal 3: the sheet's version is not 1"
+for version in '\0\0' '\0\003' '\001\001' '\002\0'; do
+    sheet "version $version" "EAS$version\\0\\0" "refusal 3: the sheet's version is neither 1 nor 2"
+done
 cut="refusal 4: bytes are missing from a record, or left over after the last"
 sheet "a missing record" "EAS\\0\\001\\0\\002$record" "record 2: $cut"
 sheet "bytes left over" "EAS\\0\\001\\0\\001${record}x" "after record 1: $cut"
@@ -186,6 +281,25 @@ sheet "an empty name" 'EAS\0\001\0\001\0\001\0\0\0\0\0\0\0\001\0\0\0\0\0\0\0\001
     "record 1: refusal 5: a record's name has no bytes or over 40"
 sheet "a repeated name" "EAS\\0\\001\\0\\002$record$record" \
     "record 2: refusal 16: the name was seen earlier in the sheet"
+
+# The same with remarks, one of three bytes behind the first record.
+one='EAS\0\002\0\001' two='EAS\0\002\0\002' remark='\003xyz'
+sheet "no length of a remark" "$one$record" "record 1: $cut"
+sheet "a cut remark" "$two$record$remark"'\001b\001'"$values"'\003xy' "record 2: $cut"
+sheet "a cut remark before an unknown kind" "$two$record$remark"'\001b\011'"$values"'\001' "record 2: $cut"
+sheet "a cut remark before a repeated name" "$two$record$remark$record"'\001' "record 2: $cut"
+sheet "a missing record behind a remark" "$two$record$remark" "record 2: $cut"
+sheet "bytes left over behind a remark" "$one$record${remark}x" "after record 1: $cut"
+sheet "a repeated name behind a remark" "$two$record$remark$record$remark" \
+    "record 2: refusal 16: the name was seen earlier in the sheet"
+sheet "an unknown kind behind a remark" "$two$record$remark"'\001b\011'"$values"'\0' \
+    "record 2: refusal 6: the kind is unknown"
+sheet "a long name behind a remark" "$two$record$remark"'\051' "record 2: refusal 5: a record's name has no bytes or over 40"
+printf "$one$record"'\0' > "$work/wrong.eas"
+as_version_1() {
+    "$tool" unpack "$work/wrong.eas" | "$tool" pack > "$work/sheet.eas" && version 1
+}
+expect "a sheet of version 2 with empty remarks alone comes back as version 1" as_version_1
 
 # Files.
 no_file='No such file or directory'

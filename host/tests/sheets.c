@@ -1,10 +1,11 @@
 #include "sheets.h"
 
-#include <stdbool.h>
 #include <string.h>
 
 #include "reference/kinds.h"
 #include "states.h"
+
+enum { SHEET_LIMIT = 65536, REMARK_MOST = 255 };
 
 static void put(tried_sheet *s, uint64_t number, int bytes) {
     for (int i = bytes - 1; i >= 0; i--)
@@ -24,8 +25,21 @@ void random_name(tried_bytes *out, random_source *r) {
         out->bytes[i] = random_byte(r);
 }
 
-/* Damages of a record while it is written. */
-typedef enum { LENGTH_ZERO, LENGTH_41, LENGTH_ANY, LENGTH_LESS, KIND_WRONG, NAME_AGAIN, RECORD_DAMAGES } record_damage;
+/* Damages of a record while it is written; those of a remark stand last. */
+typedef enum {
+    LENGTH_ZERO,
+    LENGTH_41,
+    LENGTH_ANY,
+    LENGTH_LESS,
+    KIND_WRONG,
+    NAME_AGAIN,
+    REMARK_MORE,
+    REMARK_LESS,
+    REMARK_ANY,
+    REMARK_CUT,
+    RECORD_DAMAGES,
+    PLAIN_DAMAGES = REMARK_MORE
+} record_damage;
 
 static void put_record(tried_sheet *s, random_source *r, const tried_bytes *name, int damage) {
     uint8_t length = (uint8_t)name->n, kind = (uint8_t)(1 + random_below(r, LAST_KIND));
@@ -49,6 +63,38 @@ static void put_record(tried_sheet *s, random_source *r, const tried_bytes *name
     put(s, state.second, 8);
 }
 
+/* A remark of some length; at times it begins with the bytes of a whole record: this one, or one with another name. */
+static void random_remark(tried_bytes *out, random_source *r, const uint8_t *record, size_t n) {
+    static const size_t edges[] = {0, 0, 1, 2, 254, REMARK_MOST};
+    out->n = random_below(r, 2) ? edges[random_below(r, 6)] : random_below(r, REMARK_MOST + 1);
+    for (size_t i = 0; i < REMARK_MOST; i++)
+        out->bytes[i] = random_byte(r);
+    if (random_below(r, 4) != 0)
+        return;
+    memcpy(out->bytes, record, n);
+    out->bytes[n] = 0;
+    if (random_below(r, 2))
+        out->bytes[1] ^= 1;
+    if (random_below(r, 2))
+        out->n = n + random_below(r, 2);
+}
+
+static void put_remark(tried_sheet *s, random_source *r, const tried_bytes *remark, int damage) {
+    size_t start = s->n;
+    uint8_t length = (uint8_t)remark->n;
+    if (damage == REMARK_MORE)
+        length++;
+    if (damage == REMARK_LESS)
+        length--;
+    if (damage == REMARK_ANY)
+        length = (uint8_t)random_bits(r);
+    put(s, length, 1);
+    for (size_t i = 0; i < remark->n; i++)
+        put(s, remark->bytes[i], 1);
+    if (damage == REMARK_CUT)
+        s->n = start + random_below(r, 1 + remark->n);
+}
+
 /* A name that no record before it has: its last bytes are its index. */
 static void distinct_name(tried_bytes *name, random_source *r, size_t index, bool shortest) {
     if (index < 256 && (shortest || random_below(r, 4) == 0)) {
@@ -63,20 +109,46 @@ static void distinct_name(tried_bytes *name, random_source *r, size_t index, boo
     name->bytes[name->n - 1] = (uint8_t)index;
 }
 
-/* Writes records up to a count, the one at `damaged` with its damage. A large sheet ends at 65,536 bytes: its last
- * record takes what is left, its name 21 to 40 bytes long. */
-static size_t put_records(tried_sheet *s, random_source *r, size_t count, size_t damaged, int damage, bool large) {
-    tried_bytes name = {0}, kept = {0};
+/* What a sheet is to have: records up to a count, the one at `damaged` with its damage. Every remark of a large sheet
+ * has the same length. */
+typedef struct {
+    int version, damage;
+    bool large;
+    size_t count, damaged, remark_length;
+} sheet_plan;
+
+/* Where no further record fits, this one takes what is left of 65,536 bytes: its remark up to 255 bytes, its name the
+ * rest of them, which is 2 to 22. */
+static void fill_up(size_t *name, size_t *remark, const sheet_plan *plan, size_t left) {
+    size_t other = plan->version == 1 ? 18 : 19, spare = left - other;
+    if (spare >= *name + *remark + other + 2)
+        return;
+    if (plan->version == 2)
+        *remark = spare - *name < REMARK_MOST ? spare - *name : REMARK_MOST;
+    *name = spare - *remark;
+}
+
+static size_t put_records(tried_sheet *s, random_source *r, const sheet_plan *plan) {
+    tried_bytes name = {0}, kept = {0}, remark = {0};
     size_t written = 0;
-    for (; written < count && s->n < 65536; written++) {
-        distinct_name(&name, r, written, large);
-        if (s->n + 58 >= 65536)
-            name.n = 65536 - s->n - 18;
-        if (written == damaged && damage == NAME_AGAIN && written > 0)
+    for (bool cut = false; written < plan->count && s->n < SHEET_LIMIT && !cut; written++) {
+        int damage = written == plan->damaged ? plan->damage : RECORD_DAMAGES;
+        size_t start = s->n, length = plan->remark_length;
+        distinct_name(&name, r, written, plan->large);
+        if (plan->large)
+            fill_up(&name.n, &length, plan, SHEET_LIMIT - start);
+        if (damage == NAME_AGAIN && written > 0)
             name = kept;
         if (written == 0 || random_below(r, 4) == 0)
             kept = name;
-        put_record(s, r, &name, written == damaged ? damage : RECORD_DAMAGES);
+        put_record(s, r, &name, damage);
+        if (plan->version == 1)
+            continue;
+        random_remark(&remark, r, s->bytes + start, s->n - start);
+        if (plan->large)
+            remark.n = length;
+        put_remark(s, r, &remark, damage);
+        cut = damage == REMARK_CUT;
     }
     return written;
 }
@@ -117,27 +189,94 @@ static void damage_sheet(tried_sheet *s, random_source *r) {
 
 /* Fills up to a length at or beyond the limit with a byte. */
 static void stretch(tried_sheet *s, random_source *r) {
-    size_t wanted = 65536 - 2 + random_below(r, 5);
+    size_t wanted = SHEET_LIMIT - 2 + random_below(r, 5);
     while (s->n < wanted)
         s->bytes[s->n++] = 0;
     s->n = wanted;
 }
 
-void random_sheet(tried_sheet *out, random_source *r, int large) {
-    size_t count = large ? 4000 : random_below(r, 8) == 0 ? 60 : random_below(r, 7);
-    size_t damaged = random_below(r, count + 1);
-    int damage = random_below(r, 3) == 0 ? (int)random_below(r, RECORD_DAMAGES) : RECORD_DAMAGES;
+static void plan_sheet(sheet_plan *plan, random_source *r, int version, bool large) {
+    *plan = (sheet_plan){.version = version, .damage = RECORD_DAMAGES, .large = large};
+    plan->count = large ? 4000 : random_below(r, 8) == 0 ? 60 : random_below(r, 7);
+    plan->damaged = large ? 1000 + random_below(r, 2001) : random_below(r, plan->count + 1);
+    if (random_below(r, 3) == 0)
+        plan->damage = (int)random_below(r, version == 1 ? PLAIN_DAMAGES : RECORD_DAMAGES);
+    if (large && version == 2 && random_below(r, 2)) {
+        plan->remark_length = REMARK_MOST;
+        plan->damaged %= 238;
+    }
+}
+
+void random_sheet_of(tried_sheet *out, random_source *r, int version, int large) {
+    sheet_plan plan;
+    plan_sheet(&plan, r, version, large != 0);
     out->n = 0;
     put(out, 0x454153, 3);
-    put(out, 1, 2);
+    put(out, (uint64_t)version, 2);
     put(out, 0, 2);
-    count = put_records(out, r, count, large ? 3000 - damaged / 2 : damaged, damage, large != 0);
+    size_t count = put_records(out, r, &plan);
     out->bytes[5] = (uint8_t)(count >> 8);
     out->bytes[6] = (uint8_t)count;
     for (uint64_t damages = random_below(r, 6); damages > 3; damages--)
         damage_sheet(out, r);
     if (large && random_below(r, 3) == 0)
         stretch(out, r);
+}
+
+void random_sheet(tried_sheet *out, random_source *r, int large) {
+    random_sheet_of(out, r, random_below(r, 3) == 0 ? 2 : 1, large);
+}
+
+/* Bytes of the record at `at` up to its remark, 0 where there is no such record. */
+static size_t bytes_before_remark(const tried_sheet *s, size_t at) {
+    if (at >= s->n || s->bytes[at] == 0 || s->bytes[at] > 40)
+        return 0;
+    size_t bytes = s->bytes[at] + 18u;
+    return s->n - at >= bytes ? bytes : 0;
+}
+
+static void put_bytes(tried_sheet *s, const uint8_t *bytes, size_t n) {
+    memcpy(s->bytes + s->n, bytes, n);
+    s->n += n;
+}
+
+/* Writes another remark for the record of n bytes before its own, cut where that is, such that `kept` bytes more still
+ * fit; at times of the same length. */
+static void put_other_remark(tried_sheet *s, random_source *r, const uint8_t *record, size_t n, bool cut, size_t kept) {
+    tried_bytes remark;
+    size_t room = SHEET_LIMIT - s->n - kept;
+    random_remark(&remark, r, record, n);
+    if (!cut && random_below(r, 4) == 0)
+        remark.n = record[n];
+    if (room == 0)
+        return;
+    if (remark.n >= room)
+        remark.n = room - 1;
+    put_remark(s, r, &remark, cut ? REMARK_CUT : RECORD_DAMAGES);
+}
+
+bool change_remarks(tried_sheet *out, random_source *r, const tried_sheet *sheet) {
+    size_t at = sheet->n < 7 ? sheet->n : 7, bytes;
+    bool all = random_below(r, 4) != 0, cut_otherwise = false;
+    out->n = 0;
+    put_bytes(out, sheet->bytes, at);
+    while ((bytes = bytes_before_remark(sheet, at)) > 0) {
+        const uint8_t *record = sheet->bytes + at;
+        size_t left = sheet->n - at - bytes, remark = left == 0 ? 1 : 1u + record[bytes];
+        bool cut = left < remark;
+        if (cut)
+            remark = left;
+        bool changed = all || random_below(r, 4) == 0;
+        put_bytes(out, record, bytes);
+        if (changed)
+            put_other_remark(out, r, record, bytes, cut, left - remark);
+        else
+            put_bytes(out, record + bytes, remark);
+        cut_otherwise = cut && changed;
+        at += bytes + remark;
+    }
+    put_bytes(out, sheet->bytes + at, sheet->n - at);
+    return cut_otherwise;
 }
 
 static bool needs_percent(uint8_t byte) {

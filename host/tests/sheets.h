@@ -2,6 +2,7 @@
 #ifndef HOST_SHEETS_H
 #define HOST_SHEETS_H
 
+#include <stdbool.h>
 #include <stddef.h>
 #include <stdint.h>
 
@@ -19,8 +20,14 @@ typedef struct {
     uint8_t bytes[SPELLING_ROOM];
 } tried_bytes;
 
-/* A sheet that is valid, or has one or two damages. `large` asks for one about as long as a sheet may be. */
+/* A sheet that is valid, or has one or two damages; about a third are of version 2. `large` asks for one about as long
+ * as a sheet may be: of the most records, or filled by remarks of 255 bytes. */
 void random_sheet(tried_sheet *out, random_source *r, int large);
+void random_sheet_of(tried_sheet *out, random_source *r, int version, int large);
+
+/* A sheet that differs in remarks only from one of version 2 within 65,536 bytes, and is within them too: other remarks
+ * in some or all records, a remark that is cut at the end cut otherwise, the rest equal. True where one is cut so. */
+bool change_remarks(tried_sheet *out, random_source *r, const tried_sheet *sheet);
 
 /* A raw name of 0 to 45 bytes, most of them of 1 to 40. */
 void random_name(tried_bytes *out, random_source *r);

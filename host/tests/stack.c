@@ -10,7 +10,7 @@
 
 #include "tools/record.h"
 
-enum { STACK = 1 << 20, MARK = 0xA7, MOST = 128 * 1024, OWN = 512, SHEETS = 5 };
+enum { STACK = 1 << 20, MARK = 0xA7, MOST = 128 * 1024, OWN = 512, SHEETS = 8 };
 
 typedef struct {
     uint8_t bytes[SHEET_MOST + 20];
@@ -38,6 +38,10 @@ static void call_check(void) {
 
 static void call_find(void) {
     sink = eas_find(current->bytes, current->n, spelled, spelled_length).start;
+}
+
+static void call_remark(void) {
+    sink = eas_remark(current->bytes, current->n, spelled, spelled_length).start;
 }
 
 static void call_search(void) {
@@ -75,6 +79,11 @@ static void call_record_at(void) {
     sink = eas_record_at(current->bytes, current->n, RECORDS_MOST).start;
 }
 
+/* Where the values of the record at a place end: its remark stands there in version 2. */
+static size_t values_end(const sheet *s, size_t at) {
+    return at + 1 + s->bytes[at] + RECORD_REST;
+}
+
 /* Every record of the sheet, and a kind that is unknown. */
 static void call_evaluate(void) {
     sink = eas_evaluate(0, 0, 0).number;
@@ -82,7 +91,8 @@ static void call_evaluate(void) {
     for (unsigned left = current->accepted ? record_count(current->bytes) : 0; left > 0; left--) {
         const uint8_t *rest = current->bytes + at + 1 + current->bytes[at];
         sink = (uint64_t)eas_evaluate(rest[0], get_number(rest + 1, 8), get_number(rest + 9, 8)).value;
-        at = (size_t)(rest - current->bytes) + 17;
+        at = values_end(current, at);
+        at += current->bytes[4] == 2 ? 1u + current->bytes[at] : 0;
     }
 }
 
@@ -142,7 +152,27 @@ static void fill(sheet *s, size_t most) {
         add_record(s, index);
 }
 
-/* An empty sheet, a small one, the fullest, one whose last name is repeated, and one that is too long. */
+/* The first records of a sheet of version 1 in one of version 2, as many as fit with a remark of this length each. */
+static void fill_with_remarks(sheet *s, const sheet *from, size_t length) {
+    s->n = HEAD;
+    memcpy(s->bytes, from->bytes, HEAD);
+    unsigned count = 0;
+    for (size_t at = HEAD, end; at < from->n; at = end, count++) {
+        end = values_end(from, at);
+        if (s->n + (end - at) + 1 + length > SHEET_MOST)
+            break;
+        memcpy(s->bytes + s->n, from->bytes + at, end - at);
+        s->n += end - at;
+        s->bytes[s->n++] = (uint8_t)length;
+        memset(s->bytes + s->n, 1, length);
+        s->n += length;
+    }
+    s->bytes[4] = 2;
+    put_number(s->bytes + 5, 2, count);
+}
+
+/* An empty sheet, a small one, the fullest, one whose last name is repeated, and one that is too long; with the most
+ * records of version 2, with the longest remarks, and with the last of these cut. */
 static void make_sheets(void) {
     fill(&sheets[0], HEAD);
     fill(&sheets[1], 3000);
@@ -150,6 +180,10 @@ static void make_sheets(void) {
     fill(&sheets[3], SHEET_MOST);
     memcpy(sheets[3].bytes + sheets[3].n - 20, sheets[3].bytes + sheets[3].n - 40, 3);
     fill(&sheets[4], SHEET_MOST + 20);
+    fill_with_remarks(&sheets[5], &sheets[2], 0);
+    fill_with_remarks(&sheets[6], &sheets[2], EAS_REMARK_ROOM);
+    fill_with_remarks(&sheets[7], &sheets[2], EAS_REMARK_ROOM);
+    sheets[7].n--;
     for (int i = 0; i < SHEETS; i++)
         sheets[i].accepted = eas_check(sheets[i].bytes, sheets[i].n) == 0;
 }
@@ -172,10 +206,10 @@ int main(void) {
         const char *name;
         void (*work)(void);
     } entries[] = {
-        {"eas_check", call_check},   {"eas_find", call_find}, {"eas_record_at", call_record_at},
-        {"eas_search", call_search}, {"eas_plot", call_plot}, {"eas_evaluate", call_evaluate},
-        {"eas_line", call_line},     {"eas_list", call_list}, {"eas_spell", call_spell},
-        {"eas_read", call_read},
+        {"eas_check", call_check},         {"eas_find", call_find},     {"eas_remark", call_remark},
+        {"eas_record_at", call_record_at}, {"eas_search", call_search}, {"eas_plot", call_plot},
+        {"eas_evaluate", call_evaluate},   {"eas_line", call_line},     {"eas_list", call_list},
+        {"eas_spell", call_spell},         {"eas_read", call_read},
     };
     int failures = 0;
     make_sheets();

@@ -56,11 +56,25 @@ refuses_list() {
     test "$(cat "$work/listed")" = "list ! 15"
 }
 
+# A sheet and the same one without its remarks have one listing.
+lists_remarks_aside() {
+    "$build/sheet_tool" unpack --spelled samples/with-remarks.eas > "$work/states.csv" &&
+        cut -d , -f 1-4 "$work/states.csv" | "$build/sheet_tool" pack > "$work/bare.eas" || return 1
+    tail -n +2 "$work/states.csv" | cut -d , -f 1 > "$work/names"
+    in_folder with-remarks.eas "$@" < "$work/names" > "$work/listed"
+    cp "$work/bare.eas" "$work/folder/sheet.eas"
+    (cd "$work/folder" && "$@") < "$work/names" > "$work/listed-bare"
+    cat "$work/listed"
+    test "$(grep -c ' [TSP] ' "$work/listed")" -eq 15 && cmp "$work/listed" "$work/listed-bare"
+}
+
 expect "the example prints what is stored" prints_example example.txt sample.eas nose%2fcap%201 42 hot 43 a%2
 expect "the example prints joined temperatures" prints_example example-joined.txt slash-and-space.eas \
     strip%2fT%20low%201 strip%2Fcold%20low refused%2FG%20at%20dense%20end
 expect "the example prints pressures" prints_example example-pressure.txt energy-and-pressure.eas \
     low%2fminus%204 upper-edge%2Fon%204 upper-edge%2fbeyond thinnest
+expect "the example prints remarks" prints_example example-remark.txt with-remarks.eas shot%201412%2freservoir \
+    1415%2fnose shot%201413%2Fnose 1416
 expect "no entry uses 128 KB of stack" "$build/stack"
 expect "the benchmark runs" "$build/bench" 1000
 if test $# -gt 0; then
@@ -69,6 +83,11 @@ if test $# -gt 0; then
     set -- "$listing" "$@"
     expect "the listing prints what is stored" lists sample.eas list.txt list-output.txt "$@"
     expect "a sheet that cannot be opened counts as empty" lists none list.txt no-sheet-output.txt "$@"
+    if test -x "$build/sheet_tool"; then
+        expect "a listing does not depend on remarks" lists_remarks_aside "$@"
+    else
+        skip "sheet_tool was not built"
+    fi
     seq 20000 > "$work/long-list"
     head -c 65536 "$work/long-list" > "$work/longest-list"
     head -c 65537 "$work/long-list" > "$work/too-long-list"

@@ -12,11 +12,12 @@
 static const char help[] = "Makes the field engineer's five checks on each SHEET and on the shipped samples.\n"
                            "Every name is asked for as a user does: by search, as a plot mark, as a listing line\n"
                            "and in a run list of all names. What is shown is compared with an exact calculation\n"
-                           "that shares no code with the library. A check that lacks a state in a SHEET says so\n"
-                           "and is no pass for it: the status is 0 only where every check passed, else 1.";
+                           "that shares no code with the library, and with what the same sheet shows without its\n"
+                           "remarks. A check that lacks a state in a SHEET says so and is no pass for it: the\n"
+                           "status is 0 only where every check passed, else 1.";
 
-static const char *const samples[] = {"sample", "slash-and-space", "digits-only", "edges-and-transitions",
-                                      "energy-and-pressure"};
+static const char *const samples[] = {
+    "sample", "slash-and-space", "digits-only", "edges-and-transitions", "energy-and-pressure", "with-remarks"};
 
 enum { SAMPLE_COUNT = sizeof samples / sizeof *samples, LEFT = 4, INDENT = 7 };
 
@@ -52,6 +53,7 @@ static const char *const place_words[PLACES] = {
 
 static const char *const cause_words[] = {
     [RIGHT] = "right",
+    [BY_REMARKS] = "wrong: the sheet's remarks change what is shown",
     [NOT_FOUND] = "wrong: the sheet has this name",
     [FOUND_ABSENT] = "wrong: no state has this name",
     [ANOTHERS] = "wrong",

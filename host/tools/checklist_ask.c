@@ -144,6 +144,52 @@ static size_t ask_list(asked_sheet *sheet, size_t first) {
     return end;
 }
 
+static void ask_all(asked_sheet *sheet) {
+    for (size_t i = 0; i < sheet->count; i++)
+        ask_alone(sheet, &sheet->names[i]);
+    for (size_t i = 0; i < sheet->count;)
+        i = ask_list(sheet, i);
+}
+
+/* The same sheet with empty remarks. */
+static asked_sheet *without_remarks(const asked_sheet *sheet) {
+    asked_sheet *bare = checked(calloc(1, sizeof *bare));
+    size_t at = HEAD;
+    bare->n = put_head(bare->bytes);
+    put_version(bare->bytes, sheet_version(sheet->bytes));
+    for (unsigned left = record_count(sheet->bytes); left > 0; left--) {
+        state s = next_state(sheet->bytes, &at);
+        bare->n = append_record(bare->bytes, bare->n, s.name, s.length, s.kind, s.first, s.second);
+    }
+    bare->count = sheet->count;
+    bare->names = checked(malloc(sheet->count * sizeof *bare->names));
+    memcpy(bare->names, sheet->names, sheet->count * sizeof *bare->names);
+    return bare;
+}
+
+static bool same_lines(const listing_line *a, const listing_line *b) {
+    return a->length == b->length && !memcmp(a->bytes, b->bytes, a->length);
+}
+
+static bool same_marks(const eas_mark *a, const eas_mark *b) {
+    return a->blank == b->blank && a->point.across == b->point.across && a->point.up == b->point.up;
+}
+
+/* No answer may depend on remarks. */
+static void compare_without_remarks(asked_sheet *sheet) {
+    asked_sheet *bare = without_remarks(sheet);
+    ask_all(bare);
+    for (size_t i = 0; i < sheet->count; i++) {
+        asked_name *own = &sheet->names[i], *other = &bare->names[i];
+        own->by_remarks[BY_SEARCH] = answers_differ(&own->answer, &other->answer) != NULL;
+        own->by_remarks[BY_PLOT] = !same_marks(&own->mark, &other->mark);
+        own->by_remarks[BY_LINE] = !same_lines(&own->line, &other->line);
+        own->by_remarks[BY_LIST] = !same_lines(&own->listed, &other->listed);
+    }
+    free(bare->names);
+    free(bare);
+}
+
 static bool is_allowed(const eas_record *record, const eas_answer *answer) {
     return judge_answer((uint8_t)record->kind, record->first, record->second, answer) == NULL;
 }
@@ -178,10 +224,9 @@ asked_sheet *ask_sheet(const char *path) {
         return NULL;
     sheet->states = checked(calloc(sheet->parsed.count + 1, sizeof *sheet->states));
     add_names(sheet);
-    for (size_t i = 0; i < sheet->count; i++)
-        ask_alone(sheet, &sheet->names[i]);
-    for (size_t i = 0; i < sheet->count;)
-        i = ask_list(sheet, i);
+    ask_all(sheet);
+    if (sheet_version(sheet->bytes) > 1)
+        compare_without_remarks(sheet);
     find_truths(sheet);
     return sheet;
 }

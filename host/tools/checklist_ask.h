@@ -39,6 +39,7 @@ typedef struct {
     eas_answer answer;
     eas_mark mark;
     listing_line line, listed;
+    bool by_remarks[WAYS]; /* another is shown where the sheet's remarks are taken away */
 } asked_name;
 
 typedef struct {

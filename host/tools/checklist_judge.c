@@ -148,6 +148,8 @@ static cause cause_by_value(double value, double unit, const right_state *right)
 static cause cause_of(const asked_sheet *sheet, const asked_name *name, way w) {
     const named_state *state = &sheet->states[name->state];
     const right_state *right = &state->right;
+    if (name->by_remarks[w])
+        return BY_REMARKS;
     if (is_right(name, state, w))
         return RIGHT;
     if (name->absent)
@@ -206,6 +208,8 @@ static unsigned places_by_value(const right_state *right) {
 /* A fault that a check names goes to that check alone, any other to all that look at the state. */
 static unsigned charged_checks(const asked_name *name, unsigned looking, cause c) {
     unsigned by_name = looking & (BIT(SIGNS) | BIT(DIGITS)), by_value = looking & ~by_name;
+    if (c == BY_REMARKS)
+        return BIT(SIGNS);
     if (name->absent)
         return BIT(name->as == ROW_NUMBER ? DIGITS : SIGNS);
     if (c == NOT_FOUND || c == ANOTHERS)

@@ -29,6 +29,7 @@ extern const unsigned check_places[TALLIES];
 
 typedef enum {
     RIGHT,
+    BY_REMARKS,    /* it is another where the sheet's remarks are taken away */
     NOT_FOUND,     /* refused as a name that no state has, or missing from the run list */
     FOUND_ABSENT,  /* something is shown for a name that no state has */
     ANOTHERS,      /* another state's answer */

@@ -1,13 +1,14 @@
-/* example SHEET NAME...: a host program. It loads a sheet, searches each spelled name, asks for its plot mark and its
- * listing line, and prints what it got. */
+/* example SHEET NAME...: a host program. It loads a sheet, searches each spelled name, asks for its remark, its plot
+ * mark and its listing line, and prints what it got: a remark's control bytes, which may steer a terminal, as ?. */
+#include <ctype.h>
 #include <errno.h>
 #include <stdio.h>
 #include <string.h>
 
 #include <airstate.h>
 
-#if !EAS_VERSION_AT_LEAST(2, 0, 0)
-#error "this program needs airstate 2.0.0 or later"
+#if !EAS_VERSION_AT_LEAST(2, 4, 0)
+#error "this program needs airstate 2.4.0 or later"
 #endif
 
 static uint8_t sheet[EAS_SHEET_ROOM + 1]; /* one byte more than the largest sheet, so that a longer file is refused */
@@ -51,12 +52,19 @@ static void print_mark(eas_mark mark) {
         printf("  mark: across %.0f, up %.0f\n", mark.point.across, mark.point.up);
 }
 
+static void print_remark(eas_part remark) {
+    for (size_t i = 0; i < remark.length; i++)
+        printf("%s%c", i > 0 ? "" : "  remark: ", iscntrl(sheet[remark.start + i]) ? '?' : sheet[remark.start + i]);
+    printf("%s", remark.length > 0 ? "\n" : "");
+}
+
 static void print_state(size_t n, const char *spelled) {
     const uint8_t *name = (const uint8_t *)spelled;
     size_t m = strlen(spelled);
     uint8_t line[EAS_LINE_ROOM];
     eas_text text = eas_line(sheet, n, name, m, line, sizeof line);
     printf("name %s\n", spelled);
+    print_remark(eas_remark(sheet, n, name, m));
     print_search(eas_search(sheet, n, name, m));
     print_mark(eas_plot(sheet, n, name, m));
     printf("  line: %.*s", (int)text.length, (const char *)line);

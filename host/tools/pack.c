@@ -1,4 +1,5 @@
-/* Method: each row of the text becomes a record behind the sheet so far, and the library judges its name there. */
+/* Method: each row of the text becomes a record behind the sheet so far, and the library judges its name there. The
+ * sheet is of version 1 until the first remark that is not empty. */
 #include "pack.h"
 
 #include <stdarg.h>
@@ -15,7 +16,7 @@
 
 enum { COLUMNS = FIRST_GIVEN + GIVEN_COUNT, SHOWN = 60, TEXT_MOST = 1 << 26 };
 
-const char *const headings[FIRST_GIVEN] = {"name", "spelled", "kind", "first", "density"};
+const char *const headings[FIRST_GIVEN] = {"name", "spelled", "kind", "first", "density", "remark", "remark_spelled"};
 
 /* The sheet so far, with the line of each record, and where each column stands: its place plus 1, or 0. */
 typedef struct {
@@ -26,7 +27,6 @@ typedef struct {
     size_t width, column[COLUMNS];
     uint8_t *bytes;
     size_t n;
-    size_t start[RECORDS_MOST];
     unsigned long line[RECORDS_MOST];
 } packing;
 
@@ -36,6 +36,8 @@ typedef struct {
     size_t length;
     const kind_row *kind;
     uint64_t first, second;
+    uint8_t remark[REMARK_MOST];
+    size_t remark_length;
 } entry;
 
 /* Tells what is wrong with a row; the text is not packed then. Gives false. */
@@ -160,7 +162,7 @@ static void take_heading(packing *p, const row *r) {
             note_unread(p, r, r->fields[i]);
     p->has_heading = true;
     p->is_full = p->wrong > 0;
-    p->taker.comments = !p->column[NAME]; /* no spelled name begins with # */
+    p->taker.comments = !p->column[NAME] && p->column[REMARK] != 1; /* a row may begin with # by one of these alone */
 }
 
 /* A raw name that could be a spelled one is taken as it stands, but told. */
@@ -259,6 +261,45 @@ static bool read_value(packing *p, const row *r, const quantity *q, int whole, u
     }
 }
 
+/* Reads a remark in percent form byte by byte, since the library reads no more than a name at once. */
+static bool read_spelled_remark(packing *p, const row *r, field f, entry *e) {
+    const uint8_t *spelled = (const uint8_t *)f.text;
+    uint8_t byte;
+    for (size_t at = 0, length; at < f.length; at += length, e->remark_length++) {
+        length = spelled[at] != '%' ? 1 : f.length - at < 3 ? f.length - at : 3;
+        uint32_t number = eas_read(spelled + at, length, &byte, 1).number;
+        if (number)
+            return wrong(p, r, "%s: refusal %u: %s: '%s'", headings[REMARK_SPELLED], number, eas_reason(number),
+                         shown(f));
+        if (e->remark_length < REMARK_MOST)
+            e->remark[e->remark_length] = byte;
+    }
+    return true;
+}
+
+static bool read_entry_remark(packing *p, const row *r, entry *e) {
+    field raw = cell(p, r, REMARK), spelled = cell(p, r, REMARK_SPELLED);
+    if (raw.length > 0 && spelled.length > 0)
+        return wrong(p, r, "both a remark and a spelled remark are given");
+    e->remark_length = raw.length;
+    memcpy(e->remark, raw.text, raw.length < REMARK_MOST ? raw.length : REMARK_MOST);
+    if (spelled.length > 0 && !read_spelled_remark(p, r, spelled, e))
+        return false;
+    if (e->remark_length > REMARK_MOST)
+        return wrong(p, r, "the remark has %zu bytes, and %d is the most: '%s'", e->remark_length, REMARK_MOST,
+                     shown(raw.length > 0 ? raw : spelled));
+    return true;
+}
+
+/* The line of the record whose name starts at a place of the sheet so far. */
+static unsigned long line_of(const packing *p, size_t start) {
+    size_t at = HEAD;
+    unsigned i = 0;
+    while (i + 1 < record_count(p->bytes) && next_state(p->bytes, &at).name != p->bytes + start)
+        i++;
+    return p->line[i];
+}
+
 /* Looks the name up in the sheet so far. */
 static bool is_new(packing *p, const row *r, const entry *e) {
     uint8_t spelled[SPELLED_MOST];
@@ -266,16 +307,18 @@ static bool is_new(packing *p, const row *r, const entry *e) {
     eas_record found = eas_find(p->bytes, p->n, spelled, length);
     if (found.number == EAS_NAME_ABSENT)
         return true;
-    unsigned i = 0;
-    while (i + 1 < record_count(p->bytes) && p->start[i] != found.start)
-        i++;
-    return wrong(p, r, "refusal %u: %s, on line %lu", EAS_NAME_REPEATED, eas_reason(EAS_NAME_REPEATED), p->line[i]);
+    return wrong(p, r, "refusal %u: %s, on line %lu", EAS_NAME_REPEATED, eas_reason(EAS_NAME_REPEATED),
+                 line_of(p, found.start));
 }
 
+/* The first remark makes every record longer. */
 static bool fits(packing *p, const row *r, const entry *e) {
-    if (p->n + 1 + e->length + RECORD_REST <= SHEET_MOST)
+    if (length_with(p->bytes, p->n, e->length, e->remark_length) <= SHEET_MOST)
         return true;
     p->is_full = true;
+    if (e->remark_length > 0 && sheet_version(p->bytes) == 1)
+        return wrong(p, r, "refusal %u: %s; this first remark makes each state a byte longer", EAS_SHEET_TOO_LONG,
+                     eas_reason(EAS_SHEET_TOO_LONG));
     return wrong_by(p, r, EAS_SHEET_TOO_LONG);
 }
 
@@ -287,12 +330,12 @@ static void take_state(packing *p, const row *r) {
             return;
         }
     if (!read_entry_name(p, r, &e) || !read_entry_kind(p, r, &e) || !read_value(p, r, e.kind->first, FIRST, &e.first) ||
-        !read_value(p, r, e.kind->second, SECOND, &e.second) || !is_new(p, r, &e) || !fits(p, r, &e))
+        !read_value(p, r, e.kind->second, SECOND, &e.second) || !read_entry_remark(p, r, &e) || !is_new(p, r, &e) ||
+        !fits(p, r, &e))
         return;
-    unsigned count = record_count(p->bytes);
-    p->start[count] = p->n + 1;
-    p->line[count] = r->line;
+    p->line[record_count(p->bytes)] = r->line;
     p->n = append_record(p->bytes, p->n, e.name, e.length, e.kind->kind, e.first, e.second);
+    p->n = append_remark(p->bytes, p->n, e.remark, e.remark_length);
 }
 
 /* After a heading that cannot be used, and after the sheet is full, rows are passed over. */

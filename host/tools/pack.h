@@ -16,7 +16,7 @@ int pack_text(const char *name, const char *text, size_t n, uint8_t sheet[SHEET_
 void unpack_to(FILE *out, const uint8_t *sheet, bool si, bool spelled);
 
 /* Headings of the columns that are no quantity in SI units. */
-enum { NAME, SPELLED, KIND, FIRST, SECOND, FIRST_GIVEN };
+enum { NAME, SPELLED, KIND, FIRST, SECOND, REMARK, REMARK_SPELLED, FIRST_GIVEN };
 extern const char *const headings[FIRST_GIVEN];
 
 #endif

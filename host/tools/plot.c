@@ -46,6 +46,17 @@ static void show_name(item *it) {
              text ? (const char *)name : it->s.spelled);
 }
 
+/* The remark as text, or spelled where it is none. */
+static void show_remark(item *it) {
+    char spelled[REMARK_SPELLED_MOST + 1];
+    size_t n = it->s.remark_length;
+    spell_remark(&it->s, spelled);
+    if (is_text(it->s.remark, n))
+        snprintf(it->remark, sizeof it->remark, "%.*s", (int)n, (const char *)it->s.remark);
+    else
+        snprintf(it->remark, sizeof it->remark, "%s (spelled)", spelled);
+}
+
 static void gather(chart *c, const uint8_t *sheet, size_t n) {
     size_t at = HEAD;
     int64_t middle, half;
@@ -55,11 +66,13 @@ static void gather(chart *c, const uint8_t *sheet, size_t n) {
         it->s = next_state(sheet, &at);
         it->number = i + 1;
         show_name(it);
+        show_remark(it);
         it->mark = eas_plot(sheet, n, (const uint8_t *)it->s.spelled, it->s.spelled_length);
         eas_answer a = search_state(sheet, n, &it->s);
         it->fitted = a.letter == 'S' || a.carries & EAS_CARRIES_LOW;
         it->joined = a.letter == 'S' ? inside_strip(a.y, &middle, &half) : a.carries & EAS_CARRIES_HIGH;
         c->blanks += it->mark.blank != 0;
+        c->remarks += it->s.remark_length > 0;
     }
 }
 
@@ -77,9 +90,9 @@ static bool has_shape(const chart *c, const panel *p, const item *shape) {
     return false;
 }
 
-/* A line for each shape of each panel, and two for the curves. */
+/* A line for each shape of each panel, two for the curves and one for remarks. */
 static int legend_lines(const chart *c) {
-    int lines = 2;
+    int lines = c->remarks > 0 ? 3 : 2;
     for (unsigned i = 0; i < c->panel_count * SHAPES; i++)
         lines += has_shape(c, &c->panels[i / SHAPES], &shapes[i % SHAPES]);
     return lines;
@@ -124,7 +137,7 @@ static double draw_shapes(figure *f, const chart *c, const panel *p, double y) {
     return y;
 }
 
-/* The last line says what Z is; pressures are spoken of where there are any. */
+/* The lines for the curves say what Z is; pressures and remarks are spoken of where there are any. */
 static void draw_legend(figure *f, const chart *c, double y) {
     bool has_pressures = false;
     for (unsigned i = 0; i < c->panel_count; i++) {
@@ -133,9 +146,13 @@ static void draw_legend(figure *f, const chart *c, double y) {
     }
     draw_line(f, LIST_LEFT - 2, y - 4, LIST_LEFT + 18, y - 4, (pen){grey, 1, true});
     y = legend(f, y, NULL, grey, "end of a fitted piece, or a limit, in Z, which is");
-    legend(f, y, NULL, grey,
-           has_pressures ? "log10 of p/p₀ over ρ/ρ₀, for entropy and pressure of e/e₀"
-                         : "log10 of p/p₀ over ρ/ρ₀, for entropy of e/e₀");
+    y = legend(f, y, NULL, grey,
+               has_pressures ? "log10 of p/p₀ over ρ/ρ₀, for entropy and pressure of e/e₀"
+                             : "log10 of p/p₀ over ρ/ρ₀, for entropy of e/e₀");
+    if (c->remarks == 0)
+        return;
+    f->text(f, (point){LIST_LEFT - 2, y}, (lettering){REMARK_SIZE, grey, 0, false, false}, "abc");
+    legend(f, y, NULL, grey, "in the list: the remark of the state above");
 }
 
 /* The file's name without its folders. */
@@ -184,7 +201,8 @@ static const tool description = {
     "Draws the states of a sheet over log10 of the density ratio, a panel for each wanted\n"
     "quantity, with a list of all states: number in the sheet, name, place and value. Marks\n"
     "have names where all find room, else the list's numbers. A state that the library\n"
-    "refuses stands in the list with the reason. In SVG and PDF names can be searched for.",
+    "refuses stands in the list with the reason, and a remark below its name. In SVG and PDF\n"
+    "names and remarks can be searched for.",
     options,
 };
 

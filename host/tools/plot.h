@@ -7,8 +7,8 @@
 #include "kinds.h"
 #include "record.h"
 
-/* Room for a name as it is shown. */
-enum { SHOWN_ROOM = SPELLED_MOST + 12 };
+/* Room for a name and for a remark as they are shown. */
+enum { SHOWN_ROOM = SPELLED_MOST + 12, REMARK_SHOWN_ROOM = REMARK_SPELLED_MOST + 12 };
 
 /* A part of the page. */
 typedef struct {
@@ -20,6 +20,7 @@ typedef struct {
     state s;
     unsigned number;       /* its place in the sheet, from 1 */
     char name[SHOWN_ROOM]; /* as text, or spelled where it is none */
+    char remark[REMARK_SHOWN_ROOM];
     eas_mark mark;
     bool fitted, joined;
     point place;
@@ -41,8 +42,8 @@ typedef struct {
 typedef struct {
     const char *title;
     item *items;
-    unsigned count, blanks;
-    axis across; /* log10 of the density ratio */
+    unsigned count, blanks, remarks; /* states, those without a point, those with a remark */
+    axis across;                     /* log10 of the density ratio */
     panel panels[KIND_COUNT];
     unsigned panel_count;
     double list_top, plot_bottom, width, height;
@@ -57,7 +58,8 @@ enum {
     RIGHT = 1010,
     LIST_LEFT = 1040,
     LIST_TOP = 140,
-    PAGE_EDGE = 24
+    PAGE_EDGE = 24,
+    REMARK_SIZE = 9 /* of letters */
 };
 
 extern const colour black, dark, grey, light;

@@ -8,11 +8,12 @@
 #include "utf8.h"
 
 enum {
-    ROWS_MOST = 8 * RECORDS_MOST,
+    ROWS_MOST = SHEET_MOST,
     NUMBERS_MOST = 32,
     COLUMNS_MOST = 32,
     NAME_WIDEST = 330,
     NAME_LEAST = 56,
+    REMARK_INDENT = 8,
     GAP = 26
 };
 
@@ -20,16 +21,21 @@ static const double SIZE = 10, PITCH = 13;
 
 /* A part of the list: a panel's states, or the states without a point for one reason. */
 typedef struct {
-    const panel *p; /* null for those without a point */
-    char heading[32];
+    const panel *p;           /* null for those without a point */
+    char heading[SHOWN_ROOM]; /* for those with what the refusal means */
+    size_t short_length;      /* of the heading at the top of a column that begins inside the section */
 } section;
 
-/* A line of the list: a heading, a state or, without one, a further line of a long name; an empty one is a gap. */
+typedef enum { A_HEADING, A_NAME, A_REMARK } row_sort;
+
+/* A line of the list: a heading, a state's name or, without a state, a further line of a long name, or a line of a
+ * remark; an empty one is a gap. The text is that of the section or of an item. */
 typedef struct {
     const section *of;
     const item *it;
-    char text[SHOWN_ROOM];
-    bool is_heading;
+    const char *text;
+    size_t length;
+    row_sort sort;
     point at;
 } list_row;
 
@@ -38,25 +44,44 @@ static list_row rows[ROWS_MOST], repeated[COLUMNS_MOST];
 static size_t section_count, row_count, repeated_count;
 static double number_width, name_width, across_width, up_width, column_width;
 
-/* A name of n bytes needs at most 1 + n/10 rows, so that there are rows for every sheet. */
+/* A row shows at least a byte of a name or a remark, and a record has 18 bytes more, enough for a heading and a gap, so
+ * that there are rows for every sheet. */
 static list_row *add_row(const section *of) {
     if (row_count == ROWS_MOST)
         abort();
-    rows[row_count] = (list_row){.of = of};
+    rows[row_count] = (list_row){.of = of, .sort = A_NAME};
     return &rows[row_count++];
 }
 
-/* How many bytes of a text fit a width: all of them, or up to the last space, or as many as there is room for. */
-static size_t fitting(const char *text, double width, bool bold) {
-    char part[SHOWN_ROOM];
+static double size_of(row_sort sort) {
+    return sort == A_REMARK ? REMARK_SIZE : SIZE;
+}
+
+/* What a row of a sort has for its text: a remark may stand below the values too. */
+static double width_of(row_sort sort) {
+    return sort == A_HEADING ? column_width
+           : sort == A_NAME  ? name_width
+                             : column_width - number_width - 8 - REMARK_INDENT;
+}
+
+/* The first n bytes of a text, until the next call. */
+static const char *part_of(const char *text, size_t n) {
+    static char part[REMARK_SHOWN_ROOM];
+    memcpy(part, text, n);
+    part[n] = 0;
+    return part;
+}
+
+/* How many bytes of a text fit a row: all of them, or up to the last space, or as many as there is room for. */
+static size_t fitting(const char *text, row_sort sort) {
+    double size = size_of(sort), width = width_of(sort);
+    bool bold = sort == A_HEADING;
     size_t n = strlen(text), at = 0, space = 0;
-    if (text_width(text, SIZE, bold) <= width)
+    if (text_width(text, size, bold) <= width)
         return n;
     while (at < n) {
         size_t next = at + utf8_first((const uint8_t *)text + at, n - at).length;
-        memcpy(part, text, next);
-        part[next] = 0;
-        if (at > 0 && text_width(part, SIZE, bold) > width)
+        if (at > 0 && text_width(part_of(text, next), size, bold) > width)
             break;
         if (text[at] == ' ')
             space = next;
@@ -66,18 +91,24 @@ static size_t fitting(const char *text, double width, bool bold) {
 }
 
 /* Adds a text in as many rows as it needs; returns the first. */
-static list_row *add_text(const section *of, const char *text, double width, bool is_heading) {
+static list_row *add_text(const section *of, const char *text, row_sort sort) {
     list_row *first = NULL;
     while (*text || !first) {
-        size_t n = fitting(text, width, is_heading);
         list_row *r = add_row(of);
-        memcpy(r->text, text, n);
-        r->text[n] = 0;
-        r->is_heading = is_heading;
+        r->text = text;
+        r->length = fitting(text, sort);
+        r->sort = sort;
         first = first ? first : r;
-        text += n;
+        text += r->length;
     }
     return first;
+}
+
+/* A state's name and, below it, its remark. */
+static void add_state(const section *of, const item *it) {
+    add_text(of, it->name, A_NAME)->it = it;
+    if (it->remark[0])
+        add_text(of, it->remark, A_REMARK);
 }
 
 /* The widths of the columns by what stands in them. */
@@ -105,17 +136,16 @@ static void measure(const chart *c) {
 static void add_panel(const chart *c, const panel *p) {
     section *s = &sections[section_count++];
     s->p = p;
-    snprintf(s->heading, sizeof s->heading, "%s", p->kind->wanted->name);
-    add_text(s, s->heading, column_width, true);
+    s->short_length = (size_t)snprintf(s->heading, sizeof s->heading, "%s", p->kind->wanted->name);
+    add_text(s, s->heading, A_HEADING);
     for (unsigned i = 0; i < c->count; i++)
         if (is_point_of(&c->items[i], p->kind))
-            add_text(s, c->items[i].name, name_width, false)->it = &c->items[i];
+            add_state(s, &c->items[i]);
     add_row(s);
 }
 
 /* The states without a point, below what their refusal means. */
 static void add_blanks(const chart *c, uint32_t number) {
-    char text[SHOWN_ROOM];
     section *s = NULL;
     for (unsigned i = 0; i < c->count; i++) {
         if (c->items[i].mark.blank != number)
@@ -123,11 +153,11 @@ static void add_blanks(const chart *c, uint32_t number) {
         if (!s) {
             s = &sections[section_count++];
             s->p = NULL;
-            snprintf(s->heading, sizeof s->heading, "no point, refusal %u", number);
-            snprintf(text, sizeof text, "%s: %s", s->heading, eas_reason(number));
-            add_text(s, text, column_width, true);
+            s->short_length = (size_t)snprintf(s->heading, sizeof s->heading, "no point, refusal %u", number);
+            snprintf(s->heading + s->short_length, sizeof s->heading - s->short_length, ": %s", eas_reason(number));
+            add_text(s, s->heading, A_HEADING);
         }
-        add_text(s, c->items[i].name, name_width, false)->it = &c->items[i];
+        add_state(s, &c->items[i]);
     }
     if (s)
         add_row(s);
@@ -135,12 +165,14 @@ static void add_blanks(const chart *c, uint32_t number) {
 
 /* A column that begins inside a section begins with its heading again. */
 static void repeat_heading(const section *of, point at) {
-    list_row *r = &repeated[repeated_count];
     if (repeated_count == COLUMNS_MOST)
         return;
-    *r = (list_row){.of = of, .is_heading = true, .at = at};
-    snprintf(r->text, sizeof r->text, "%s", of->heading);
-    repeated_count++;
+    repeated[repeated_count++] = (list_row){of, NULL, of->heading, of->short_length, A_HEADING, at};
+}
+
+/* A remark does not begin a column: its name would be far away. */
+static bool is_before_remark(size_t row) {
+    return row + 1 < row_count && rows[row].sort == A_NAME && rows[row + 1].sort == A_REMARK;
 }
 
 /* Fills columns of a part of the page from a row on; returns the first row that found no place. */
@@ -149,13 +181,13 @@ static size_t fill_columns(size_t from, box b, int columns) {
     for (int i = 0; i < columns * lines && from < row_count; i++) {
         list_row *r = &rows[from];
         point at = {b.x + i / lines * (column_width + GAP), b.y + (i % lines + 1) * PITCH};
-        bool at_top = i % lines == 0;
-        if (at_top && !r->text[0]) {
+        bool at_top = i % lines == 0, at_end = (i + 1) % lines == 0;
+        if (at_top && r->length == 0) {
             from++;
             i--;
-        } else if (at_top && !r->is_heading) {
+        } else if (at_top && r->sort != A_HEADING) {
             repeat_heading(r->of, at);
-        } else {
+        } else if (!at_end || !is_before_remark(from)) {
             r->at = at;
             from++;
         }
@@ -179,7 +211,7 @@ static void place_rows(chart *c) {
         return;
     box below = {PAGE_EDGE, c->plot_bottom + PAGE_EDGE, PAGE_WIDTH - 2 * PAGE_EDGE, 0};
     columns = columns_in(below.w);
-    below.h = (ceil((double)(row_count - placed) / columns) + 2) * PITCH;
+    below.h = (ceil((double)(row_count - placed) / columns) + (c->remarks > 0 ? 3 : 2)) * PITCH;
     fill_columns(placed, below, columns);
     c->width = PAGE_WIDTH;
     c->height = below.y + below.h + PAGE_EDGE;
@@ -200,7 +232,7 @@ static void draw_heading(figure *f, const list_row *r) {
     const lettering right = {SIZE, grey, 1, false, false};
     const panel *p = r->of->p;
     double x = r->at.x + number_width + 8 + name_width + across_width;
-    f->text(f, r->at, (lettering){SIZE, p ? p->ink : black, 0, false, true}, r->text);
+    f->text(f, r->at, (lettering){SIZE, p ? p->ink : black, 0, false, true}, part_of(r->text, r->length));
     if (!p)
         return;
     f->text(f, (point){x, r->at.y}, right, "log10 ρ/ρ₀");
@@ -216,9 +248,10 @@ static void draw_values(figure *f, const list_row *r) {
     f->text(f, (point){x + up_width, r->at.y}, right, value_text(r->it, r->of->p->kind));
 }
 
-static void draw_row(figure *f, const list_row *r) {
+static void draw_name(figure *f, const list_row *r) {
     char number[16];
-    f->text(f, (point){r->at.x + number_width + 8, r->at.y}, (lettering){SIZE, black, 0, false, false}, r->text);
+    f->text(f, (point){r->at.x + number_width + 8, r->at.y}, (lettering){SIZE, black, 0, false, false},
+            part_of(r->text, r->length));
     if (!r->it)
         return;
     snprintf(number, sizeof number, "%u", r->it->number);
@@ -227,12 +260,17 @@ static void draw_row(figure *f, const list_row *r) {
         draw_values(f, r);
 }
 
+static void draw_remark(figure *f, const list_row *r) {
+    f->text(f, (point){r->at.x + number_width + 8 + REMARK_INDENT, r->at.y},
+            (lettering){REMARK_SIZE, grey, 0, false, false}, part_of(r->text, r->length));
+}
+
 void draw_list(figure *f) {
+    static void (*const draw[])(figure *, const list_row *) = {
+        [A_HEADING] = draw_heading, [A_NAME] = draw_name, [A_REMARK] = draw_remark};
     for (size_t i = 0; i < row_count; i++)
-        if (rows[i].is_heading)
-            draw_heading(f, &rows[i]);
-        else if (rows[i].text[0])
-            draw_row(f, &rows[i]);
+        if (rows[i].length > 0)
+            draw[rows[i].sort](f, &rows[i]);
     for (size_t i = 0; i < repeated_count; i++)
         draw_heading(f, &repeated[i]);
 }

@@ -116,9 +116,9 @@ static void draw_label(figure *f, const panel *p, const item *it, box b, bool by
 }
 
 static void draw_mark(figure *f, const panel *p, const item *it) {
-    char title[SPELLED_MOST + 96];
-    snprintf(title, sizeof title, "%u  %s: %s %s, log10 of the density ratio %.6f", it->number, it->name,
-             value_text(it, p->kind), p->kind->wanted->unit, across_of(it));
+    char title[SHOWN_ROOM + REMARK_SHOWN_ROOM + 96];
+    snprintf(title, sizeof title, "%u  %s: %s %s, log10 of the density ratio %.6f%s%s", it->number, it->name,
+             value_text(it, p->kind), p->kind->wanted->unit, across_of(it), it->remark[0] ? "; " : "", it->remark);
     f->open_group(f, title);
     draw_shape(f, it->place, p->ink, mark_size(p), it);
     f->close_group(f);

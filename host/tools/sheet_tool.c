@@ -26,6 +26,8 @@ static const tool description = {
     "  kind            1 or temperature, 2 or entropy, 3 or pressure; may be left out\n"
     "                  beside these but for pressure\n"
     "  first, density  whole units instead: 1e-6 Pa or 1e-3 J/kg, and 1e-11 kg/m3\n"
+    "  remark          up to 255 bytes that no answer depends on, or\n"
+    "  remark_spelled  the same with %00 for a zero byte and the like; both may be left out\n"
     "Numbers are read exactly. Every wrong line is told, and then nothing is written.",
     options,
 };

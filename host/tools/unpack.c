@@ -12,15 +12,19 @@
 
 /* What columns a text has. */
 typedef struct {
-    bool names, spelled, si;
+    bool names, spelled, si, remarks, spelled_remarks;
 } layout;
 
 /* Whether the record at *at ends within the sheet; if so, *at moves past it. */
 static bool pass_record(const uint8_t *sheet, size_t n, size_t *at) {
-    size_t length = *at < n ? sheet[*at] : 0;
-    if (length == 0 || length > NAME_MOST || n - *at < 1 + length + RECORD_REST)
+    size_t left = n - *at, name = left > 0 ? sheet[*at] : 0, whole = 1 + name + RECORD_REST;
+    if (name == 0 || name > NAME_MOST)
         return false;
-    *at += 1 + length + RECORD_REST;
+    if (sheet_version(sheet) > 1)
+        whole += 1u + (left > whole ? sheet[*at + whole] : 0);
+    if (left < whole)
+        return false;
+    *at += whole;
     return true;
 }
 
@@ -52,7 +56,10 @@ static layout layout_of(const uint8_t *sheet, bool si, bool spelled) {
     size_t at = HEAD;
     for (unsigned left = record_count(sheet); left > 0; left--) {
         state s = next_state(sheet, &at);
+        bool text = is_text(s.remark, s.remark_length);
         l.spelled |= !is_raw(&s, l);
+        l.remarks |= text && s.remark_length > 0;
+        l.spelled_remarks |= !text;
     }
     return l;
 }
@@ -64,18 +71,22 @@ static void write_heading(FILE *out, layout l) {
         fprintf(out, ",%s", given[i]->heading);
     if (!l.si)
         fprintf(out, ",%s,%s", headings[FIRST], headings[SECOND]);
+    if (l.remarks)
+        fprintf(out, ",%s", headings[REMARK]);
+    if (l.spelled_remarks)
+        fprintf(out, ",%s", headings[REMARK_SPELLED]);
     fputc('\n', out);
 }
 
 /* Quoted only where it must be: a quote, a delimiter, a space at an end, or a # at the start. */
-static void write_name(FILE *out, const uint8_t *name, size_t n) {
-    bool plain = name[0] != ' ' && name[n - 1] != ' ' && name[0] != '#';
+static void write_text(FILE *out, const uint8_t *text, size_t n) {
+    bool plain = n == 0 || (text[0] != ' ' && text[n - 1] != ' ' && text[0] != '#');
     for (size_t i = 0; i < n; i++)
-        plain = plain && !strchr(",;\"", name[i]);
+        plain = plain && !strchr(",;\"", text[i]);
     if (plain)
-        fwrite(name, 1, n, out);
+        fwrite(text, 1, n, out);
     else
-        csv_fwrite(out, name, n);
+        csv_fwrite(out, text, n);
 }
 
 /* A kind that the tool does not know cannot stand in an accepted sheet that the library of the same version took. */
@@ -95,16 +106,31 @@ static void write_values(FILE *out, const state *s, layout l) {
     }
 }
 
+/* A remark that is text stands in the column `remark`, any other in `remark_spelled`. */
+static void write_remark(FILE *out, const state *s, layout l) {
+    char spelled[REMARK_SPELLED_MOST + 1];
+    bool text = is_text(s->remark, s->remark_length);
+    if (l.remarks)
+        fputc(',', out);
+    if (l.remarks && text)
+        write_text(out, s->remark, s->remark_length);
+    if (l.spelled_remarks)
+        fputc(',', out);
+    if (!text)
+        fwrite(spelled, 1, spell_remark(s, spelled), out);
+}
+
 static void write_state(FILE *out, const state *s, layout l) {
     bool raw = is_raw(s, l);
     if (raw)
-        write_name(out, s->name, s->length);
+        write_text(out, s->name, s->length);
     if (l.names && l.spelled)
         fputc(',', out);
     if (!raw)
         fputs(s->spelled, out);
     fprintf(out, ",%u", s->kind);
     write_values(out, s, l);
+    write_remark(out, s, l);
     fputc('\n', out);
 }
 

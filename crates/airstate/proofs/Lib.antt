@@ -1,3 +1,4 @@
 pub mod Plot
+pub mod Remarks
 pub mod Allowed
 pub mod Demand3

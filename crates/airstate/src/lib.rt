@@ -2,20 +2,23 @@
 use air::Answer;
 use flat::CAnswer;
 use flat_parts::CMark;
+use flat_parts::CPart;
 use flat_parts::CRecord;
 use flat_parts::CText;
 ghost use mathlib.Core.Path.{_≡_};
+ghost use Prim.Native.Nat.{_+_, _≤_};
 ghost use lib.ListN.{length};
 ghost use Rattle.octets.specs.Room.{written, outcomeOf};
 ghost use Rattle.name.specs.Name.{spellingOf};
 ghost use Rattle.sheet.specs.Sheet.{sheetOf, numberOf};
+ghost use Rattle.sheet_remark.specs.Remark.{remarkOf};
 ghost use Rattle.sheet_walk.specs.Records.{recordOf};
 ghost use Rattle.air.specs.Choices.{chosen};
 ghost use Rattle.air.specs.State.{answerBy};
 ghost use Rattle.mark.specs.Mark.{markOf};
 ghost use Rattle.calculator.specs.Search.{locate, searchBy};
 ghost use Rattle.flat.specs.Flat.{flat};
-ghost use Rattle.flat_parts.specs.Flat.{flatFound, flatText, flatMark};
+ghost use Rattle.flat_parts.specs.Flat.{flatFound, flatRemark, flatText, flatMark};
 ghost use Rattle.airstate.specs.Allowed.{IsFlatSearch, IsFlatAnswer, IsFlatMark, IsFlatLine, IsFlatListing};
 ghost use Rattle.name_room.specs.Read.{readIn};
 ghost use Rattle.airstate.specs.Texts.{lineIn, listingIn};
@@ -34,6 +37,15 @@ pub extern "C" fn eas_find(sheet: &[u8], spelled: &[u8]) -> CRecord
     ensures { λ r. ⌜ r ≡ flatFound (locate (now (sheet .entry)) (now (spelled .entry))) ⌝ }
 {
     flat_parts::flatten_found(calculator::locate(sheet, spelled))
+}
+
+// The remark of a spelled name's record, as the part of the sheet that holds it.
+#[no_mangle]
+pub extern "C" fn eas_remark(sheet: &[u8], spelled: &[u8]) -> CPart
+    ensures { λ r. ⌜ r ≡ flatRemark (remarkOf (now (sheet .entry)) (locate (now (sheet .entry)) (now (spelled .entry)))) ⌝ }
+    ensures { λ r. ⌜ r .start + r .length ≤ length (now (sheet .entry)) ⌝ }
+{
+    flat_parts::flatten_remark(calculator::found_remark(sheet, spelled))
 }
 
 // A record by its number, from 0, and where its name stands.

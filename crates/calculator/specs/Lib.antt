@@ -1,3 +1,4 @@
 pub mod Search
 pub mod Demand3
 pub mod FoundName
+pub mod Remarks

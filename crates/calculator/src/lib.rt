@@ -1,9 +1,11 @@
 // The search of a sheet by a spelled name.
 use air::Answer;
 use octets::Outcome;
+use sheet_remark::Remark;
 use sheet_search::Lookup;
 ghost use mathlib.Core.Path.{_≡_};
 ghost use Rattle.sheet.specs.Index.{Indexed};
+ghost use Rattle.sheet_remark.specs.Remark.{remarkOf, RemarkInside};
 ghost use Rattle.air.specs.Held.{held};
 ghost use Rattle.air.specs.Choices.{chosen};
 ghost use Rattle.calculator.specs.Search.{locate, answerAt, IsSearch, searchBy};
@@ -80,4 +82,12 @@ pub fn found_name<'a, 'b>(sheet: &'a [u8], spelled: &'b [u8]) -> &'a [u8]
     ensures { λ r. ⌜ now r ≡ foundName (now (sheet .entry)) (now (spelled .entry)) ⌝ }
 {
     sheet_search::handed_back(sheet, locate(sheet, spelled))
+}
+
+// The remark of the record that a search finds, as the part of the sheet that holds it.
+pub fn found_remark(sheet: &[u8], spelled: &[u8]) -> Remark
+    ensures { λ r. ⌜ r ≡ remarkOf (now (sheet .entry)) (locate (now (sheet .entry)) (now (spelled .entry))) ⌝ }
+    ensures { λ r. ⌜ RemarkInside (now (sheet .entry)) r ⌝ }
+{
+    sheet_remark::remark_of(sheet, locate(sheet, spelled))
 }

@@ -1,14 +1,24 @@
--- The start and the length that C gets are those of the part of the sheet that a search hands back.
+-- The start and the length that C gets are those of the part of the sheet that a search hands back, and of one that lies in the sheet.
 use mathlib.Core.List.{List}
 use mathlib.Core.Path.{_≡_, refl}
-use Prim.Native.Nat.{ℕ}
+use Prim.Native.Nat.{ℕ, _+_, _≤_}
+use native.Mathlib.Omega.{arith}
+use lib.ListN.{length}
 use Rattle.octets.specs.Bytes.{part}
 use Rattle.sheet_search.specs.Find.{handedBack}
 use Rattle.sheet_search.specs.declared.Lookup.{Lookup}
 use Rattle.sheet_search.specs.declared.Lookup.the-variants.{Hit, Miss}
-use Rattle.flat_parts.specs.Flat.{flatFound}
+use Rattle.sheet_remark.specs.declared.Remark.{Remark}
+use Rattle.sheet_remark.specs.declared.Remark.the-variants.{At, Refused}
+use Rattle.sheet_remark.specs.Remark.{RemarkInside}
+use Rattle.flat_parts.specs.Flat.{flatFound, flatRemark}
 
 pub found-part : (s : List ℕ) (f : Lookup) → part s (flatFound f .start) (flatFound f .length) ≡ handedBack s f
 unfolding flatFound
 found-part s (Miss n) = refl
 found-part s (Hit r) = refl
+
+pub remark-part : (s : List ℕ) (m : Remark) → RemarkInside s m → flatRemark m .start + flatRemark m .length ≤ length s
+unfolding flatRemark
+remark-part s (Refused n) h = omega arith
+remark-part s (At p) h = h

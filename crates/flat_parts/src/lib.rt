@@ -1,9 +1,10 @@
-// What C gets of records, texts and marks: flat structs.
+// What C gets of records, remarks, texts and marks: flat structs.
 use mark::Mark;
 use octets::Outcome;
+use sheet_remark::Remark;
 use sheet_search::Lookup;
 ghost use mathlib.Core.Path.{_≡_};
-ghost use Rattle.flat_parts.specs.Flat.{flatFound, flatText, flatMark};
+ghost use Rattle.flat_parts.specs.Flat.{flatFound, flatRemark, flatText, flatMark};
 
 #[repr(C)]
 pub struct CRecord {
@@ -11,6 +12,13 @@ pub struct CRecord {
     pub kind: u32,
     pub first: u64,
     pub second: u64,
+    pub start: usize,
+    pub length: usize,
+}
+
+#[repr(C)]
+pub struct CPart {
+    pub number: u32,
     pub start: usize,
     pub length: usize,
 }
@@ -85,6 +93,24 @@ pub fn flatten_found(found: Lookup) -> CRecord
             second: r.second,
             start: r.start,
             length: r.len,
+        },
+    }
+}
+
+// A remark as C takes it.
+pub fn flatten_remark(remark: Remark) -> CPart
+    ensures { λ r. ⌜ r ≡ flatRemark remark ⌝ }
+{
+    match remark {
+        Remark::Refused(number) => CPart {
+            number,
+            start: 0,
+            length: 0,
+        },
+        Remark::At(p) => CPart {
+            number: 0,
+            start: p.start,
+            length: p.len,
         },
     }
 }

@@ -2,3 +2,4 @@ pub mod Output
 pub mod Cases
 pub mod Allowed
 pub mod Whole
+pub mod Alike

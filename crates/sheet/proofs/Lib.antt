@@ -1,5 +1,7 @@
+pub mod Computed
 pub mod Walk
 pub mod Accept
 pub mod Turns
 pub mod Kept
 pub mod Entries
+pub mod Heads

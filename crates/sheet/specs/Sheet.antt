@@ -44,7 +44,7 @@ sheetBy versions s =
     (cond (ltb (length s) 7 || not (isMarked s)) (refused 2)
     (withLayout s (versions (numberAt 2 s 3))))
 
--- a sheet as the base reads it: version 1 alone
+-- a sheet of either version
 abbrev pub sheetOf : List ℕ → Sheet
 sheetOf s = sheetBy layoutOf s
 

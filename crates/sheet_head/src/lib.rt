@@ -21,9 +21,12 @@ pub fn head_fault(s: &[u8]) -> u32
     if s[2] != b'S' {
         return 2;
     }
-    if sheet_record::number(s, 3, 2) == 1 {
-        0
-    } else {
-        3
+    let version = sheet_record::number(s, 3, 2);
+    if version == 1 {
+        return 0;
     }
+    if version == 2 {
+        return 0;
+    }
+    3
 }

@@ -1,3 +1,5 @@
+pub mod Computed
 pub mod Places
+pub mod Tails
 pub mod Steps
 pub mod Local

@@ -12,7 +12,7 @@ use lib.Seq.{drop-cons, drop-drop, getD-drop}
 use borrow.Author.Tests.{leb-true, leb-false, ltb-false, eqb-false}
 use Rattle.kind.specs.Kind.{kindOf, isKnown}
 use Rattle.octets.specs.Bytes.{numberAt}
-use Rattle.sheet_record.specs.Layout.{Layout, layoutIn, orPlain, plainLayout}
+use Rattle.sheet_record.specs.Layout.{Layout}
 use Rattle.sheet_record.specs.Front.{Fields, Front, bad, front, frontOf, fieldsOf, past, faultOf}
 use Rattle.octets.proofs.Numbers.{number-drop}
 
@@ -138,12 +138,3 @@ stands y s at e = go (frontOf y (drop at s)) (view y s at) refl e
 pub faulty : (f : Front) → (faultOf f ≡ 0 → ⊥) → f ≡ bad (faultOf f)
 faulty (bad k) h = refl
 faulty (front f) h = absurd (h refl)
-
--- version 1 alone is read, so no record has a tail
-pub no-tail : (s u : List ℕ) → layoutIn s .tail u ≡ some 0
-unfolding layoutIn
-no-tail s u = go (eqb (numberAt 2 s 3) 1)
-  where
-    go : (b : Bool) → orPlain (cond b (some plainLayout) none) .tail u ≡ some 0
-    go true = refl
-    go false = refl

@@ -2,12 +2,13 @@
 use mathlib.Core.Bool.{Bool, false, cond, _||_}
 use mathlib.Core.List.{List, [], _∷_}
 use mathlib.Core.Option.{Option, none, some}
-use Prim.Native.Nat.{ℕ, zero, suc, _+_}
-use lib.Dec.{ltb, eqb}
+use mathlib.Core.Path.{_≡_}
+use Prim.Native.Nat.{ℕ, zero, suc, _+_, _-_, _≤_}
+use lib.Dec.{leb, ltb, eqb}
 use lib.ListN.{length, getD, drop}
 use Rattle.kind.specs.Kind.{kindOf, isKnown}
 use Rattle.octets.specs.Bytes.{numberAt, part}
-use Rattle.sheet_record.specs.Layout.{Layout}
+use Rattle.sheet_record.specs.Layout.{Layout, layoutIn}
 use Rattle.sheet_record.specs.declared.Record.{Record}
 
 -- what a record says, wherever it stands: the length of its name, its kind byte, its two values, and the length of its tail
@@ -46,6 +47,10 @@ recordAt at f = record { start = at + 1; len = f .len; kind = f .kind; first = f
 abbrev pub past : ℕ → Fields → ℕ
 past at f = at + 18 + f .len + f .tail
 
+-- where its second value ends
+abbrev pub valuesEnd : Record → ℕ
+valuesEnd r = r .start + r .len + 17
+
 -- the name of a record: the part of the sheet that holds it
 abbrev pub nameIn : List ℕ → Record → List ℕ
 nameIn s r = part s (r .start) (r .len)
@@ -54,6 +59,17 @@ nameIn s r = part s (r .start) (r .len)
 abbrev pub faultOf : Front → ℕ
 faultOf (bad k) = k
 faultOf (front f) = 0
+
+-- r bytes follow a second value that ends at a place, or would if the sheet were not cut short
+pub record Tailed (s : List ℕ) (end r : ℕ) : Type 0 where
+  pub is : layoutIn s .tail (drop end s) ≡ cond (leb r (length s - end)) (some r) none
+  pub most : r ≤ 256
+
+-- what follows a second value that ends at a place lies in the sheet
+pub record Whole (y : Layout) (s : List ℕ) (end : ℕ) : Type 0 where
+  pub tail : ℕ
+  pub tailed : y .tail (drop end s) ≡ some tail
+  pub fits : end + tail ≤ length s
 
 -- the place behind a record at a place; its own where it is refused
 abbrev pub behind : ℕ → Front → ℕ

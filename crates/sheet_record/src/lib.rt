@@ -2,10 +2,11 @@
 ghost use mathlib.Core.Path.{_≡_};
 ghost use mathlib.Core.Bool.{true};
 ghost use Prim.Native.Nat.{_+_, _<_, _≤_};
+ghost use lib.Dec.{eqb};
 ghost use lib.ListN.{length, getD, drop};
 ghost use Rattle.octets.specs.Bytes.{numberAt};
 ghost use Rattle.sheet_record.specs.Layout.{layoutIn};
-ghost use Rattle.sheet_record.specs.Front.{frontOf, faultOf, behind, entryAt, standsAt, endAt};
+ghost use Rattle.sheet_record.specs.Front.{Tailed, frontOf, faultOf, behind, entryAt, standsAt, endAt};
 
 // One record: where its name stands, its kind byte and its two values.
 pub struct Record {
@@ -42,6 +43,32 @@ pub fn number(s: &[u8], at: usize, k: usize) -> u64
     n
 }
 
+// Whether a sheet is of version 2, in which records have remarks.
+fn has_remarks(s: &[u8]) -> bool
+    requires { ⌜ 5 ≤ length (now s) ⌝ }
+    ensures { λ r. ⌜ r ≡ eqb (numberAt 2 (now (s .entry)) 3) 2 ⌝ }
+{
+    if s[4] != 2 {
+        return false;
+    }
+    s[3] == 0
+}
+
+// How many bytes follow a record's second value, which ends at a place: none in version 1, in version 2 a remark with its length byte.
+// The sheet may be cut short there.
+pub fn tail_at(s: &[u8], end: usize) -> usize
+    requires { ⌜ (5 ≤ length (now s)) × (end ≤ length (now s)) ⌝ }
+    ensures { λ r. ⌜ Tailed (now (s .entry)) end r ⌝ }
+{
+    if has_remarks(s) {
+        if end == s.len() {
+            return 1;
+        }
+        return long(s[end]) + 1;
+    }
+    0
+}
+
 // The refusal of the record at a place, or 0.
 fn fault_at(s: &[u8], at: usize) -> u32
     ensures { λ r. ⌜ r ≡ faultOf (frontOf (layoutIn (now (s .entry))) (drop at (now (s .entry)))) ⌝ }
@@ -58,6 +85,10 @@ fn fault_at(s: &[u8], at: usize) -> u32
     }
     let start = at + 1;
     if s.len() - start < n + 17 {
+        return 4;
+    }
+    let end = at + 18 + n;
+    if s.len() - end < tail_at(s, end) {
         return 4;
     }
     if kind::is_known(s[start + n]) {
@@ -100,7 +131,8 @@ pub fn past_at(s: &[u8], at: usize, left: usize) -> usize
     requires { ⌜ standsAt (layoutIn (now s)) (now s) at left ≡ true ⌝ }
     ensures { λ r. ⌜ r ≡ behind at (frontOf (layoutIn (now (s .entry))) (drop at (now (s .entry)))) ⌝ }
 {
-    at + 18 + long(s[at])
+    let end = at + 18 + long(s[at]);
+    end + tail_at(s, end)
 }
 
 // The refusal at a place where no record stands; 0 at the end of the sheet.

@@ -2,3 +2,4 @@ pub mod Locate
 pub mod Searching
 pub mod Indexed
 pub mod Pages
+pub mod Remarks

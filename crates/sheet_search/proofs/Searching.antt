@@ -5,7 +5,7 @@ use mathlib.Core.Path.{_≡_, refl}
 use Prim.Native.Nat.{ℕ}
 use Rattle.octets.specs.Bytes.{same}
 use Rattle.sheet_search.specs.Find.{findIn, findBy, findOf, Inside}
-use Rattle.sheet_record.specs.Layout.{layoutOf}
+use Rattle.sheet_record.specs.Layout.{layoutOf, layoutIn}
 use Rattle.sheet_record.specs.Front.{nameIn}
 use Rattle.sheet.specs.Sheet.{Sheet, refused, records, sheetOf}
 use Rattle.sheet_search.specs.declared.Lookup.{Lookup}
@@ -29,6 +29,11 @@ finding s (r ∷ rs) name = go (same (nameIn s r) name) refl (findIn s rs name) 
     go false e (Hit q) (hit m k) = hit (List·Memᴰ·tail m) k
     go false e (Miss n) miss = miss
 
+-- each record of an accepted sheet lies in it
+pub record-inside : (s : List ℕ) (rs : List Record) (r : Record) → sheetOf s ≡ records rs → List·Memᴰ r rs → Inside s (Hit r)
+unfolding layoutIn
+record-inside s rs r e m = finds layoutOf s rs r e m .fit .inside
+
 -- what is found lies in the sheet
 pub find-inside : (s name : List ℕ) → Inside s (findOf s name)
 find-inside s name = go (sheetOf s) refl
@@ -38,5 +43,5 @@ find-inside s name = go (sheetOf s) refl
     go (records rs) e = among (findIn s rs name) (finding s rs name)
       where
         among : (f : Lookup) → Finding s rs name f → Inside s f
-        among (Hit r) (hit m k) = finds layoutOf s rs r e m .fit .inside
+        among (Hit r) (hit m k) = record-inside s rs r e m
         among (Miss n) v = tt

@@ -1,10 +1,10 @@
 -- Finding a name in a sheet.
 use mathlib.Core.Bool.{cond}
 use mathlib.Core.List.{List, [], _∷_}
-use Prim.Native.Nat.{ℕ, _+_, _≤_}
-use lib.ListN.{length}
+use Prim.Native.Nat.{ℕ}
 use Rattle.octets.specs.Bytes.{same}
-use Rattle.sheet_record.specs.Front.{nameIn}
+use Rattle.sheet_record.specs.Layout.{layoutIn}
+use Rattle.sheet_record.specs.Front.{Whole, nameIn, valuesEnd}
 use Rattle.sheet.specs.Sheet.{Sheet, refused, records, sheetOf}
 use Rattle.sheet_search.specs.declared.Lookup.{Lookup}
 use Rattle.sheet_search.specs.declared.Lookup.the-variants.{Hit, Miss}
@@ -29,7 +29,7 @@ abbrev pub handedBack : List ℕ → Lookup → List ℕ
 handedBack s (Miss n) = []
 handedBack s (Hit r) = nameIn s r
 
--- the name of a found record lies in the sheet
+-- a found record lies in the sheet, with what follows its values
 abbrev pub Inside : List ℕ → Lookup → Type 0
 Inside s (Miss n) = Unit
-Inside s (Hit r) = r .start + r .len ≤ length s
+Inside s (Hit r) = Whole (layoutIn s) s (valuesEnd r)

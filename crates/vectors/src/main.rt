@@ -7,11 +7,12 @@
 //   read SPELLING LABEL         the name's bytes in decimal, and the name as written
 //   write ROOM NAME LABEL       how many bytes were written, and between < and > the whole room
 //   check SHEET LABEL           the refusal's number or 0
-//   find SHEET SPELLING LABEL   the record, and between < and > the part of the sheet that holds the name
+//   find SHEET SPELLING LABEL   the record, its remark's place, and between < and > the part of the sheet that holds the name
 //
 // In a word \x and two hexadecimal digits stand for a byte. A sheet is its bytes, or @ and the name of a file that has them.
 use libc::STDIN_FILENO;
 use libc::STDOUT_FILENO;
+use sheet_remark::Remark;
 use sheet_search::Lookup;
 use vector_answers::answer;
 use vector_answers::between;
@@ -86,9 +87,21 @@ fn says(found: Lookup) {
     }
 }
 
+// Where a remark stands.
+fn tells(remark: Remark) {
+    match remark {
+        Remark::At(p) => {
+            field(b" remark at", p.start as u64);
+            field(b" length", p.len as u64);
+        }
+        Remark::Refused(_) => {}
+    }
+}
+
 // A search by a spelled name, and the part of the sheet that holds the name.
 fn finds(s: &[u8], spelled: &[u8]) {
     says(calculator::locate(s, spelled));
+    tells(calculator::found_remark(s, spelled));
     between(calculator::found_name(s, spelled));
 }
 

@@ -1,13 +1,22 @@
 -- `sheet_head::head_fault` tests the header: each answer is a case of the definition.
-use native.Mathlib.Omega.{arith}
+use mathlib.Core.Path.{_≡_, sym, ap}
+use Prim.Native.Nat.{ℕ}
 use borrow.Author.Tests.{le-ltb, lt-ltb, eq-eqb, ne-eqb}
 use denote.Ref.{now}
-use Rattle.octets.specs.Bytes.{numberAt}
-use Rattle.sheet_head.specs.Head.{headFault}
+use Rattle.sheet_record.specs.Layout.{layoutOf}
+use Rattle.sheet_head.specs.Head.{versionFault, headFault}
 use Rattle.sheet_head.proofs.Head.{mark-bytes}
 use borrow.Author.Needs.{needs}
 use Rattle.sheet_head.proofs.head_fault.Statement.{statement}
 use Rattle.sheet_head.proofs.head_fault.Tie as tie
+
+-- a header with the mark
+marked : (c : tie.After-number) → headFault (now (c .before .before .before .before .before .before .before .before .before .before .args .s)) ≡ versionFault (layoutOf (c .number .result))
+unfolding headFault
+marked c =
+    let s = now (c .before .before .before .before .before .before .before .before .before .before .args .s) in
+    simp (le-ltb 65536 _ (c .before .before .before .before .before .before .before .before .if1 .left), le-ltb _ 7 (c .before .before .before .before .before .before .before .if2 .left), mark-bytes s (c .before .before .before .before .before .before .before .if2 .left), eq-eqb _ _ (c .before .before .before .before .before .if3 .left), eq-eqb _ _ (c .before .before .before .if4 .left), eq-eqb _ _ (c .before .if5 .left))
+    (ap (λ (v : ℕ). versionFault (layoutOf v)) (sym (c .number .ensures)))
 
 returns : tie.Need-returns
 unfolding headFault
@@ -48,16 +57,13 @@ number-requires : tie.Need-number-requires
 number-requires c κs = search needs
 
 returns-6 : tie.Need-returns-6
-unfolding headFault
-returns-6 c =
-    let s = now (c .before .before .before .before .before .before .before .before .before .before .before .args .s) in
-    simp (le-ltb 65536 _ (c .before .before .before .before .before .before .before .before .before .if1 .left), le-ltb _ 7 (c .before .before .before .before .before .before .before .before .if2 .left), mark-bytes s (c .before .before .before .before .before .before .before .before .if2 .left), eq-eqb _ _ (c .before .before .before .before .before .before .if3 .left), eq-eqb _ _ (c .before .before .before .before .if4 .left), eq-eqb _ _ (c .before .before .if5 .left), eq-eqb (numberAt 2 s 3) 1 (omega (arith, c .before .number .ensures, c .if6 .taken)))
+returns-6 c = rw (marked (c .before), eq-eqb _ _ (c .if6 .taken))
 
 returns-7 : tie.Need-returns-7
-unfolding headFault
-returns-7 c =
-    let s = now (c .before .before .before .before .before .before .before .before .before .before .before .args .s) in
-    simp (le-ltb 65536 _ (c .before .before .before .before .before .before .before .before .before .if1 .left), le-ltb _ 7 (c .before .before .before .before .before .before .before .before .if2 .left), mark-bytes s (c .before .before .before .before .before .before .before .before .if2 .left), eq-eqb _ _ (c .before .before .before .before .before .before .if3 .left), eq-eqb _ _ (c .before .before .before .before .if4 .left), eq-eqb _ _ (c .before .before .if5 .left), ne-eqb (numberAt 2 s 3) 1 (λ e. omega (arith, c .before .number .ensures, c .if6 .left, e)))
+returns-7 c = rw (marked (c .before .before), ne-eqb _ _ (c .before .if6 .left), eq-eqb _ _ (c .if7 .taken))
+
+returns-8 : tie.Need-returns-8
+returns-8 c = rw (marked (c .before .before), ne-eqb _ _ (c .before .if6 .left), ne-eqb _ _ (c .if7 .left))
 
 pub head-fault-spec : {M : Type 1} → statement M
 head-fault-spec =
@@ -73,4 +79,5 @@ head-fault-spec =
     returns-5
     number-requires
     returns-6
-    returns-7)
+    returns-7
+    returns-8)

@@ -1,11 +1,13 @@
 -- `sheet_record::fault_at` tests a record's bytes by their places.
-use mathlib.Core.Path.{sym, _∙_}
+use mathlib.Core.Path.{_≡_, sym, _∙_}
 use Prim.Native.Nat.{ℕ, _+_, _-_}
 use native.Mathlib.Omega.{arith}
 use denote.Ref.{now}
-use lib.ListN.{length}
+use lib.ListN.{length, drop}
 use borrow.Author.Tests.{le-leb, lt-leb, le-ltb, lt-ltb, eq-eqb, ne-eqb}
-use Rattle.sheet_record.proofs.Places.{front-at, no-tail}
+use Rattle.sheet_record.specs.Layout.{layoutIn}
+use Rattle.sheet_record.specs.Front.{frontOf}
+use Rattle.sheet_record.proofs.Places.{tailedAt, front-at}
 use borrow.Author.Needs.{needs}
 use Rattle.sheet_record.proofs.fault_at.Statement.{statement}
 use Rattle.sheet_record.proofs.fault_at.Tie as tie
@@ -13,6 +15,16 @@ use Rattle.sheet_record.proofs.fault_at.Tie as tie
 -- how many bytes follow the length byte
 abbrev tail-of : tie.Start → ℕ
 tail-of c = length (now (c .args .s)) - (c .args .at + 1)
+
+-- a record that passes the tests before its tail
+tested : (f : tie.Else4) → let l = f .before .before .before in let b = l .before .before .before .before .args in let s = now (b .s) in let n = l .long .result in
+    frontOf (layoutIn s) (drop (b .at) s) ≡ tailedAt s (b .at) n (layoutIn s .tail (drop (b .at + 18 + n) s))
+tested f =
+    let l = f .before .before .before in
+    let n = l .long .result in
+    let u = tail-of (l .before .before .before .before) in
+    rw (front-at, ← (l .long .ensures .0))
+    (simp (lt-leb _ _ (l .before .before .if1 .left), ne-eqb _ _ (f .before .before .if2 .left), le-ltb 40 n (omega (arith, f .before .if3 .left)), le-ltb u (n + 17) (omega (arith, f .if4 .left))))
 
 returns : tie.Need-returns
 returns c = rw front-at (simp (le-leb _ _ (c .if1 .taken)))
@@ -49,6 +61,24 @@ returns-4 c =
     rw (front-at, ← (l .long .ensures .0))
     (simp (lt-leb _ _ (l .before .before .if1 .left), ne-eqb _ _ (c .before .before .if2 .left), le-ltb 40 n (omega (arith, c .before .if3 .left)), lt-ltb u (n + 17) (omega (arith, c .if4 .taken))))
 
+add-end : tie.Need-add-end
+add-end c = search needs
+
+add-end-2 : tie.Need-add-end-2
+add-end-2 c = search needs
+
+sub-if5 : tie.Need-sub-if5
+sub-if5 c = search needs
+
+tail-at-requires : tie.Need-tail-at-requires
+tail-at-requires c κs = search needs
+
+-- a record with its tail cut short
+returns-5 : tie.Need-returns-5
+returns-5 c =
+    let t = c .before in
+    rw (tested (t .before), t .tail-at .ensures .is, lt-leb _ _ (c .if5 .taken))
+
 add-is-known : tie.Need-add-is-known
 add-is-known c = search needs
 
@@ -58,23 +88,15 @@ shared-slice-read-is-known c = search needs
 is-known-requires : tie.Need-is-known-requires
 is-known-requires c κs = search needs
 
-returns-5 : tie.Need-returns-5
-returns-5 c =
-    let f = c .before .before .before in
-    let l = f .before .before .before in
-    let n = l .long .result in
-    let u = tail-of (l .before .before .before .before) in
-    rw (front-at, ← (l .long .ensures .0))
-    (simp (lt-leb _ _ (l .before .before .if1 .left), ne-eqb _ _ (f .before .before .if2 .left), le-ltb 40 n (omega (arith, f .before .if3 .left)), le-ltb u (n + 17) (omega (arith, f .if4 .left)), no-tail, sym (c .before .is-known .ensures) ∙ c .if5 .taken))
-
 returns-6 : tie.Need-returns-6
 returns-6 c =
-    let f = c .before .before .before in
-    let l = f .before .before .before in
-    let n = l .long .result in
-    let u = tail-of (l .before .before .before .before) in
-    rw (front-at, ← (l .long .ensures .0))
-    (simp (lt-leb _ _ (l .before .before .if1 .left), ne-eqb _ _ (f .before .before .if2 .left), le-ltb 40 n (omega (arith, f .before .if3 .left)), le-ltb u (n + 17) (omega (arith, f .if4 .left)), no-tail, sym (c .before .is-known .ensures) ∙ c .if5 .left))
+    let e = c .before .before .before in
+    rw (tested (e .before .before), e .before .tail-at .ensures .is, le-leb _ _ (e .if5 .left), sym (c .before .is-known .ensures) ∙ c .if6 .taken)
+
+returns-7 : tie.Need-returns-7
+returns-7 c =
+    let e = c .before .before .before in
+    rw (tested (e .before .before), e .before .tail-at .ensures .is, le-leb _ _ (e .if5 .left), sym (c .before .is-known .ensures) ∙ c .if6 .left)
 
 pub fault-at-spec : {M : Type 1} → statement M
 fault-at-spec =
@@ -89,8 +111,13 @@ fault-at-spec =
     sub-if4
     add-if4
     returns-4
+    add-end
+    add-end-2
+    sub-if5
+    tail-at-requires
+    returns-5
     add-is-known
     shared-slice-read-is-known
     is-known-requires
-    returns-5
-    returns-6)
+    returns-6
+    returns-7)

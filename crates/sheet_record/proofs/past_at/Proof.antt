@@ -1,13 +1,13 @@
--- `sheet_record::past_at` goes past a record: no tail follows its second value.
-use mathlib.Core.Path.{_≡_, sym, _∙_}
-use mathlib.Core.Option.{some}
-use Prim.Native.Nat.{_+_}
+-- `sheet_record::past_at` goes past a record and its tail, which is whole.
+use mathlib.Core.Path.{_≡_, sym, ap, _∙_}
+use Prim.Native.Nat.{ℕ, _+_}
 use native.Mathlib.Omega.{arith}
 use denote.Ref.{now}
-use lib.ListN.{getD, drop}
+use lib.ListN.{drop}
 use Rattle.sheet_record.specs.Layout.{layoutIn}
-use Rattle.sheet_record.proofs.Places.{Stands, no-tail}
+use Rattle.sheet_record.proofs.Places.{Stands}
 use Rattle.sheet_record.proofs.Steps.{stands-there}
+use Rattle.sheet_record.proofs.Tails.{tail-is}
 use borrow.Author.Needs.{needs}
 use Rattle.sheet_record.proofs.past_at.Statement.{statement}
 use Rattle.sheet_record.proofs.past_at.Tie as tie
@@ -15,8 +15,17 @@ use Rattle.sheet_record.proofs.past_at.Tie as tie
 here : (c : tie.Start) → let s = now (c .args .s) in Stands (layoutIn s) s (c .args .at)
 here c = let s = now (c .args .s) in stands-there (layoutIn s) s (c .args .at) (c .args .left) (c .pre)
 
-add-result : tie.Need-add-result
-add-result c = record { fits = omega (arith, here (c .before) .sound .fits, c .before .good) }
+-- the tail that is passed is the record's
+is : (c : tie.After-tail-at) → c .tail-at .result ≡ here (c .before .before .before .before) .fields .tail
+is c =
+    let b = c .before .before .before .before in
+    let s = now (b .args .s) in
+    let p = here b in
+    tail-is (c .tail-at .result) _ (p .fields .tail)
+    (sym (c .tail-at .ensures .is) ∙ ap (λ (n : ℕ). layoutIn s .tail (drop (b .args .at + 18 + n) s)) (c .before .long .ensures .0) ∙ p .sound .tailed)
+
+add-end : tie.Need-add-end
+add-end c = record { fits = omega (arith, here (c .before) .sound .fits, c .before .good) }
 
 shared-slice-read-long : tie.Need-shared-slice-read-long
 shared-slice-read-long c = omega (arith, here (c .before .before) .sound .fits)
@@ -24,21 +33,27 @@ shared-slice-read-long c = omega (arith, here (c .before .before) .sound .fits)
 long-requires : tie.Need-long-requires
 long-requires c κs = search needs
 
-add-result-2 : tie.Need-add-result-2
-add-result-2 c =
+add-end-2 : tie.Need-add-end-2
+add-end-2 c =
     let b = c .before .before .before in
     let p = here b in
     record { fits = omega (arith, p .sound .fits, p .sound .len-is, b .good, c .long .ensures .0) }
 
+tail-at-requires : tie.Need-tail-at-requires
+tail-at-requires c κs =
+    let p = here (c .before .before .before) in
+    (omega (arith, p .sound .fits), omega (arith, p .sound .fits, p .sound .len-is, c .long .ensures .0))
+
+add-result : tie.Need-add-result
+add-result c =
+    let b = c .before .before .before .before in
+    let p = here b in
+    record { fits = omega (arith, p .sound .fits, p .sound .len-is, b .good, c .before .long .ensures .0, is c) }
+
 returns : tie.Need-returns
 returns c =
-    let b = c .before .before .before in
-    let s = now (b .args .s) in
-    let at = b .args .at in
-    let p = here b in
-    let e : some 0 ≡ some (p .fields .tail) = sym (no-tail s (drop (at + 18 + getD s at 0) s)) ∙ p .sound .tailed in
-    let z : 0 ≡ p .fields .tail = cc in
-    rw (p .is) (omega (arith, p .sound .len-is, c .long .ensures .0))
+    let p = here (c .before .before .before .before) in
+    rw (p .is) (omega (arith, p .sound .len-is, c .before .long .ensures .0, is c))
 
 pub past-at-spec : {M : Type 1} → statement M
-past-at-spec = tie.close (tie.spec add-result shared-slice-read-long long-requires add-result-2 returns)
+past-at-spec = tie.close (tie.spec add-end shared-slice-read-long long-requires add-end-2 tail-at-requires add-result returns)

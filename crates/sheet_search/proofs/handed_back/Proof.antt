@@ -1,10 +1,10 @@
 -- `sheet_search::handed_back` lends the part that holds the found record's name.
 use mathlib.Core.Path.{sym, ap, subst, _∙_}
-use Prim.Native.Nat.{ℕ, _+_, _≤_}
+use Prim.Native.Nat.{ℕ}
 use native.Mathlib.Nat.{add-sub-cancel-left}
 use native.Mathlib.Omega.{arith}
 use denote.Ref.{now}
-use lib.ListN.{length, take, drop}
+use lib.ListN.{take, drop}
 use Rattle.sheet_search.specs.Find.{Inside, handedBack}
 use borrow.Author.Needs.{needs}
 use Rattle.sheet_search.proofs.handed_back.Statement.{statement}
@@ -17,8 +17,8 @@ add-end : tie.Need-add-end
 add-end c =
     let v = c .before .before .found .given in
     let s = now (c .before .before .before .before .args .s) in
-    let l : v .0 .0 .start + v .0 .0 .len ≤ length s = subst (Inside s) (v .1) (c .before .before .before .before .pre) in
-    record { fits = omega (arith, c .before .before .before .before .good) }
+    let w = subst (Inside s) (v .1) (c .before .before .before .before .pre) in
+    record { fits = omega (arith, w .fits, c .before .before .before .before .good) }
 
 sub-result : tie.Need-sub-result
 sub-result c = search needs
@@ -30,8 +30,8 @@ part-result-end : tie.Need-part-result-end
 part-result-end c =
     let v = c .before .before .found .given in
     let s = now (c .before .before .before .before .args .s) in
-    let l : v .0 .0 .start + v .0 .0 .len ≤ length s = subst (Inside s) (v .1) (c .before .before .before .before .pre) in
-    l
+    let w = subst (Inside s) (v .1) (c .before .before .before .before .pre) in
+    omega (arith, w .fits)
 
 enum-told : tie.Need-enum-told
 enum-told c = search needs

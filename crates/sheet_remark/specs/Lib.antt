@@ -1,0 +1,2 @@
+pub mod Remark
+pub mod Read

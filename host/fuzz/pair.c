@@ -1,0 +1,119 @@
+#include "pair.h"
+
+#include <string.h>
+
+#include "bench/baseline.h"
+#include "guard.h"
+#include "judge.h"
+#include "tools/record.h"
+
+static guard other_guard;
+
+size_t values_size(const uint8_t *sheet, size_t n, size_t at) {
+    if (at >= n || sheet[at] == 0 || sheet[at] > NAME_MOST)
+        return 0;
+    size_t size = 1u + sheet[at] + RECORD_REST;
+    return n - at >= size ? size : 0;
+}
+
+size_t record_size(const uint8_t *sheet, size_t n, size_t at) {
+    size_t size = values_size(sheet, n, at);
+    if (size == 0 || sheet[4] != 2)
+        return size;
+    if (n - at == size)
+        return 0;
+    size += 1u + sheet[at + size];
+    return n - at >= size ? size : 0;
+}
+
+/* Bytes to make remarks of, over and over. */
+typedef struct {
+    const uint8_t *bytes;
+    size_t size, next;
+} supply;
+
+static uint8_t take(supply *from) {
+    return from->bytes[from->next++ % from->size];
+}
+
+/* Writes a remark, cut where that is asked for, into a room that has a byte at least where it is not; returns its size.
+ */
+static size_t put_remark(uint8_t *to, supply *from, size_t room, int cut) {
+    size_t length = take(from);
+    if (length >= room)
+        length = room > 0 ? room - 1 : 0;
+    if (cut && length == 0)
+        return 0;
+    size_t there = cut ? take(from) % length : length;
+    to[0] = (uint8_t)length;
+    for (size_t i = 1; i <= there; i++)
+        to[i] = take(from);
+    return 1 + there;
+}
+
+/* A remark that is cut becomes another one that is; what is no record stays. */
+static size_t change_remarks(uint8_t *to, const uint8_t *sheet, size_t n, supply *from) {
+    size_t at = HEAD, end = HEAD, values;
+    memcpy(to, sheet, HEAD);
+    while ((values = values_size(sheet, n, at)) > 0) {
+        size_t left = n - at - values, remark = left == 0 ? 1 : 1u + sheet[at + values];
+        int cut = left < remark;
+        if (cut)
+            remark = left;
+        memcpy(to + end, sheet + at, values);
+        end += values;
+        end += put_remark(to + end, from, SHEET_MOST - end - (left - remark), cut);
+        at += values + remark;
+    }
+    memcpy(to + end, sheet + at, n - at);
+    return end + (n - at);
+}
+
+static int same_but_place(query a, query b, eas_record x, eas_record y) {
+    return x.number == y.number && x.kind == y.kind && x.first == y.first && x.second == y.second &&
+           x.length == y.length &&
+           (x.number ? x.start == 0 && y.start == 0 : !memcmp(a.sheet + x.start, b.sheet + y.start, x.length));
+}
+
+static int same_mark(eas_mark a, eas_mark b) {
+    return a.blank == b.blank && a.point.across == b.point.across && a.point.up == b.point.up;
+}
+
+static void check_texts(query a, query b) {
+    static uint8_t first[256 * LINE_MOST], second[256 * LINE_MOST];
+    eas_text x = eas_line(a.sheet, a.n, a.spelled, a.m, first, LINE_MOST);
+    eas_text y = eas_line(b.sheet, b.n, b.spelled, b.m, second, LINE_MOST);
+    require(x.number == 0 && y.number == 0 && x.length == y.length && !memcmp(first, second, x.length),
+            "a line does not depend on remarks");
+    x = eas_list(a.sheet, a.n, a.spelled, a.m, first, sizeof first);
+    y = eas_list(b.sheet, b.n, b.spelled, b.m, second, sizeof second);
+    require(x.number == 0 && y.number == 0 && x.length == y.length && !memcmp(first, second, x.length),
+            "a listing does not depend on remarks");
+}
+
+static void check_records(query a, query b) {
+    require(same_but_place(a, b, eas_find(a.sheet, a.n, a.spelled, a.m), eas_find(b.sheet, b.n, b.spelled, b.m)),
+            "a found record does not depend on remarks");
+    for (unsigned i = 0; i <= record_count(a.sheet) && i < 8; i++)
+        require(same_but_place(a, b, eas_record_at(a.sheet, a.n, i), eas_record_at(b.sheet, b.n, i)),
+                "a record at a place does not depend on remarks");
+}
+
+void check_pair(query q, const uint8_t *bytes, size_t size) {
+    static uint8_t sheet[SHEET_MOST];
+    supply from = {bytes, size, 0};
+    size_t n = change_remarks(sheet, q.sheet, q.n, &from);
+    query other = {guard_take(&other_guard, sheet, n), q.spelled, n, q.m};
+    require(eas_check(q.sheet, q.n) == eas_check(other.sheet, n), "a sheet's number does not depend on remarks");
+    eas_answer a = eas_search(q.sheet, q.n, q.spelled, q.m), b = eas_search(other.sheet, n, q.spelled, q.m);
+    require(same_answer(&a, &b), "an answer does not depend on remarks");
+    require(same_mark(eas_plot(q.sheet, q.n, q.spelled, q.m), eas_plot(other.sheet, n, q.spelled, q.m)),
+            "a mark does not depend on remarks");
+    check_records(q, other);
+    check_texts(q, other);
+    eas_part remark = eas_remark(other.sheet, n, q.spelled, q.m);
+    eas_part plain = baseline_remark(other.sheet, n, q.spelled, q.m);
+    require(remark.number == plain.number && remark.start == plain.start && remark.length == plain.length,
+            "the other sheet's own remark");
+    require(!memcmp(other.sheet, sheet, n), "no call changes the other sheet");
+}
