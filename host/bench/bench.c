@@ -36,7 +36,7 @@ static pair *temperatures, *entropies, *pressures, *singles, *joins, *single_pre
 static uint8_t small_sheet[SHEET_MOST + 1], full_sheet[SHEET_MOST];
 static size_t small_size, full_size;
 
-/* The same states in as many bytes, with remarks: empty ones, short ones and the longest. */
+/* The first of the same states in as many bytes, with remarks: empty ones, short ones and the longest. */
 enum { SHORT_REMARK = 8 };
 static uint8_t remarked_sheet[SHEET_MOST], short_sheet[SHEET_MOST], long_sheet[SHEET_MOST];
 static size_t remarked_size, short_size, long_size;
@@ -133,27 +133,6 @@ static void make_full_sheet(void) {
         pair p = of_kind[i % 3][i % states];
         full_size = append_record(full_sheet, full_size, name, length, (uint8_t)(1 + i % 3), p.first, p.second);
     }
-}
-
-/* The first states of the fullest sheet in one of version 2, as many as fit with a remark of this length each. The last
- * remark takes what is left. */
-static size_t make_remarked(uint8_t *sheet, size_t length) {
-    size_t n = put_head(sheet), at = HEAD;
-    unsigned count = 0;
-    while (n + RECORD_LEAST + 2 <= SHEET_MOST) {
-        size_t record = 1u + full_sheet[at] + RECORD_REST, left = SHEET_MOST - n - record - 1;
-        size_t remark = left < length + RECORD_LEAST + 2 && left <= EAS_REMARK_ROOM ? left : length;
-        memcpy(sheet + n, full_sheet + at, record);
-        n += record;
-        at += record;
-        sheet[n++] = (uint8_t)remark;
-        memset(sheet + n, 'r', remark);
-        n += remark;
-        count++;
-    }
-    sheet[4] = 2;
-    put_number(sheet + 5, 2, count);
-    return n;
 }
 
 /* NAMES of the fullest sheet's names, spelled, each on a line, in an order that is not the sheet's. */
@@ -370,9 +349,9 @@ static void make_all(void) {
     make_states();
     make_small_sheet();
     make_full_sheet();
-    remarked_size = make_remarked(remarked_sheet, 0);
-    short_size = make_remarked(short_sheet, SHORT_REMARK);
-    long_size = make_remarked(long_sheet, EAS_REMARK_ROOM);
+    remarked_size = put_with_remarks(remarked_sheet, full_sheet, 0);
+    short_size = put_with_remarks(short_sheet, full_sheet, SHORT_REMARK);
+    long_size = put_with_remarks(long_sheet, full_sheet, REMARK_MOST);
     make_names();
     make_titles();
 }

@@ -5,6 +5,7 @@
 #include "bench/baseline.h"
 #include "guard.h"
 #include "judge.h"
+#include "same.h"
 #include "tools/record.h"
 
 static guard other_guard;
@@ -69,16 +70,6 @@ static size_t change_remarks(uint8_t *to, const uint8_t *sheet, size_t n, supply
     return end + (n - at);
 }
 
-static int same_but_place(query a, query b, eas_record x, eas_record y) {
-    return x.number == y.number && x.kind == y.kind && x.first == y.first && x.second == y.second &&
-           x.length == y.length &&
-           (x.number ? x.start == 0 && y.start == 0 : !memcmp(a.sheet + x.start, b.sheet + y.start, x.length));
-}
-
-static int same_mark(eas_mark a, eas_mark b) {
-    return a.blank == b.blank && a.point.across == b.point.across && a.point.up == b.point.up;
-}
-
 static void check_texts(query a, query b) {
     static uint8_t first[256 * LINE_MOST], second[256 * LINE_MOST];
     eas_text x = eas_line(a.sheet, a.n, a.spelled, a.m, first, LINE_MOST);
@@ -92,10 +83,11 @@ static void check_texts(query a, query b) {
 }
 
 static void check_records(query a, query b) {
-    require(same_but_place(a, b, eas_find(a.sheet, a.n, a.spelled, a.m), eas_find(b.sheet, b.n, b.spelled, b.m)),
+    require(same_but_place(a.sheet, eas_find(a.sheet, a.n, a.spelled, a.m), b.sheet,
+                           eas_find(b.sheet, b.n, b.spelled, b.m)),
             "a found record does not depend on remarks");
     for (unsigned i = 0; i <= record_count(a.sheet) && i < 8; i++)
-        require(same_but_place(a, b, eas_record_at(a.sheet, a.n, i), eas_record_at(b.sheet, b.n, i)),
+        require(same_but_place(a.sheet, eas_record_at(a.sheet, a.n, i), b.sheet, eas_record_at(b.sheet, b.n, i)),
                 "a record at a place does not depend on remarks");
 }
 
@@ -113,7 +105,6 @@ void check_pair(query q, const uint8_t *bytes, size_t size) {
     check_texts(q, other);
     eas_part remark = eas_remark(other.sheet, n, q.spelled, q.m);
     eas_part plain = baseline_remark(other.sheet, n, q.spelled, q.m);
-    require(remark.number == plain.number && remark.start == plain.start && remark.length == plain.length,
-            "the other sheet's own remark");
+    require(same_part(remark, plain), "the other sheet's own remark");
     require(!memcmp(other.sheet, sheet, n), "no call changes the other sheet");
 }

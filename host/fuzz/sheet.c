@@ -19,6 +19,7 @@
 #include "guard.h"
 #include "judge.h"
 #include "pair.h"
+#include "same.h"
 #include "tools/limits.h"
 #include "tools/record.h"
 
@@ -100,8 +101,7 @@ static void check_find(query q, const eas_record *found) {
 static void check_remark(query q, const eas_record *found) {
     eas_part remark = eas_remark(q.sheet, q.n, q.spelled, q.m), plain = baseline_remark(q.sheet, q.n, q.spelled, q.m);
     require(remark.number == found->number, "a remark is refused exactly where its record is");
-    require(remark.number == plain.number && remark.start == plain.start && remark.length == plain.length,
-            "eas_remark is the plain search's");
+    require(same_part(remark, plain), "eas_remark is the plain search's");
     if (remark.number)
         return;
     size_t behind = found->start + found->length + RECORD_REST;

@@ -10,6 +10,7 @@
 #include "reference/answer.h"
 #include "reference/line.h"
 #include "reference/sheet.h"
+#include "same.h"
 #include "sheets.h"
 #include "tally.h"
 
@@ -35,25 +36,11 @@ static void expect(const sheet_pair *p, const tried_bytes *spelling, bool held, 
         tally_hex("spelling", spelling->bytes, spelling->n);
 }
 
-/* Equal in all but where the names stand, which hold the same bytes. */
-static bool same_records(const sheet_pair *p, const eas_record *a, const eas_record *b) {
-    if (a->number != b->number || a->kind != b->kind || a->first != b->first || a->second != b->second ||
-        a->length != b->length)
-        return false;
-    if (a->number != 0)
-        return a->start == 0 && b->start == 0;
-    return memcmp(p->sheet[0]->bytes + a->start, p->sheet[1]->bytes + b->start, a->length) == 0;
-}
-
-static bool same_marks(const eas_mark *a, const eas_mark *b) {
-    return a->blank == b->blank && a->point.across == b->point.across && a->point.up == b->point.up;
-}
-
 static void compare_place(const sheet_pair *p, size_t place) {
     eas_record records[2];
     for (int i = 0; i < 2; i++)
         records[i] = eas_record_at(p->at[i], p->sheet[i]->n, place);
-    expect(p, NULL, same_records(p, &records[0], &records[1]), "eas_record_at differs by a remark");
+    expect(p, NULL, same_but_place(p->at[0], records[0], p->at[1], records[1]), "eas_record_at differs by a remark");
 }
 
 /* The line of a spelled name: the second must have the first one's bytes, in that many bytes and in one less. */
@@ -86,13 +73,11 @@ static void compare_spelled(const sheet_pair *p, const tried_bytes *spelling) {
         marks[i] = eas_plot(at, n, spelled, m);
         eas_part remark = eas_remark(at, n, spelled, m);
         eas_part expected = sheet_remark(p->parsed[i], p->sheet[i]->bytes, spelling->bytes, m);
-        expect(p, spelling,
-               remark.number == expected.number && remark.start == expected.start && remark.length == expected.length,
-               "eas_remark is another sheet's");
+        expect(p, spelling, same_part(remark, expected), "eas_remark is another sheet's");
     }
-    expect(p, spelling, same_records(p, &found[0], &found[1]), "eas_find differs by a remark");
+    expect(p, spelling, same_but_place(p->at[0], found[0], p->at[1], found[1]), "eas_find differs by a remark");
     expect(p, spelling, answers_differ(&answers[0], &answers[1]) == NULL, "eas_search differs by a remark");
-    expect(p, spelling, same_marks(&marks[0], &marks[1]), "eas_plot differs by a remark");
+    expect(p, spelling, same_mark(marks[0], marks[1]), "eas_plot differs by a remark");
     compare_lines(p, spelling, spelled);
 }
 
@@ -234,8 +219,8 @@ static void compare_fixed(void) {
         uint32_t number = eas_check(sheet, n);
         eas_part got = eas_remark(sheet, n, spelled, m), expected = fixed[i].remark;
         tally_check(number == fixed[i].number, "eas_check gives %" PRIu32, number);
-        tally_check(got.number == expected.number && got.start == expected.start && got.length == expected.length,
-                    "eas_remark gives number %" PRIu32 " at %zu length %zu", got.number, got.start, got.length);
+        tally_check(same_part(got, expected), "eas_remark gives number %" PRIu32 " at %zu length %zu", got.number,
+                    got.start, got.length);
     }
 }
 

@@ -9,6 +9,7 @@
 #include "reference/answer.h"
 #include "reference/line.h"
 #include "reference/sheet.h"
+#include "same.h"
 #include "sheets.h"
 #include "tally.h"
 
@@ -59,10 +60,9 @@ static int version_of(const tried_sheet *sheet) {
 static void compare_remark(const search_case *c, const parsed_sheet *parsed) {
     eas_part expected = sheet_remark(parsed, c->sheet->bytes, c->spelling->bytes, c->spelling->n);
     eas_part got = eas_remark(c->at, c->sheet->n, c->spelled, c->spelling->n);
-    bool same = got.number == expected.number && got.start == expected.start && got.length == expected.length;
     remarks_by_length[expected.number != 0 || version_of(c->sheet) == 1 ? NO_REMARK : expected.length]++;
-    if (tally_check(same, "eas_remark: expected number %" PRIu32 " at %zu length %zu", expected.number, expected.start,
-                    expected.length))
+    if (tally_check(same_part(got, expected), "eas_remark: expected number %" PRIu32 " at %zu length %zu",
+                    expected.number, expected.start, expected.length))
         return;
     tally_note("got number %" PRIu32 " at %zu length %zu", got.number, got.start, got.length);
     show(c);
@@ -104,10 +104,8 @@ static eas_answer compare_search(const search_case *c, const eas_record *found) 
 
 static void compare_plot(const search_case *c, const eas_answer *answer) {
     eas_mark got = eas_plot(c->at, c->sheet->n, c->spelled, c->spelling->n), expected = mark_of(answer);
-    bool same =
-        got.blank == expected.blank && got.point.across == expected.point.across && got.point.up == expected.point.up;
-    if (tally_check(same, "eas_plot: expected blank %" PRIu32 " %.17g %.17g", expected.blank, expected.point.across,
-                    expected.point.up))
+    if (tally_check(same_mark(got, expected), "eas_plot: expected blank %" PRIu32 " %.17g %.17g", expected.blank,
+                    expected.point.across, expected.point.up))
         return;
     tally_note("got blank %" PRIu32 " %.17g %.17g", got.blank, got.point.across, got.point.up);
     show(c);

@@ -79,11 +79,6 @@ static void call_record_at(void) {
     sink = eas_record_at(current->bytes, current->n, RECORDS_MOST).start;
 }
 
-/* Where the values of the record at a place end: its remark stands there in version 2. */
-static size_t values_end(const sheet *s, size_t at) {
-    return at + 1 + s->bytes[at] + RECORD_REST;
-}
-
 /* Every record of the sheet, and a kind that is unknown. */
 static void call_evaluate(void) {
     sink = eas_evaluate(0, 0, 0).number;
@@ -91,8 +86,8 @@ static void call_evaluate(void) {
     for (unsigned left = current->accepted ? record_count(current->bytes) : 0; left > 0; left--) {
         const uint8_t *rest = current->bytes + at + 1 + current->bytes[at];
         sink = (uint64_t)eas_evaluate(rest[0], get_number(rest + 1, 8), get_number(rest + 9, 8)).value;
-        at = values_end(current, at);
-        at += current->bytes[4] == 2 ? 1u + current->bytes[at] : 0;
+        at = (size_t)(rest - current->bytes) + RECORD_REST;
+        at += sheet_version(current->bytes) == 2 ? 1u + current->bytes[at] : 0;
     }
 }
 
@@ -152,25 +147,6 @@ static void fill(sheet *s, size_t most) {
         add_record(s, index);
 }
 
-/* The first records of a sheet of version 1 in one of version 2, as many as fit with a remark of this length each. */
-static void fill_with_remarks(sheet *s, const sheet *from, size_t length) {
-    s->n = HEAD;
-    memcpy(s->bytes, from->bytes, HEAD);
-    unsigned count = 0;
-    for (size_t at = HEAD, end; at < from->n; at = end, count++) {
-        end = values_end(from, at);
-        if (s->n + (end - at) + 1 + length > SHEET_MOST)
-            break;
-        memcpy(s->bytes + s->n, from->bytes + at, end - at);
-        s->n += end - at;
-        s->bytes[s->n++] = (uint8_t)length;
-        memset(s->bytes + s->n, 1, length);
-        s->n += length;
-    }
-    s->bytes[4] = 2;
-    put_number(s->bytes + 5, 2, count);
-}
-
 /* An empty sheet, a small one, the fullest, one whose last name is repeated, and one that is too long; with the most
  * records of version 2, with the longest remarks, and with the last of these cut. */
 static void make_sheets(void) {
@@ -180,10 +156,9 @@ static void make_sheets(void) {
     fill(&sheets[3], SHEET_MOST);
     memcpy(sheets[3].bytes + sheets[3].n - 20, sheets[3].bytes + sheets[3].n - 40, 3);
     fill(&sheets[4], SHEET_MOST + 20);
-    fill_with_remarks(&sheets[5], &sheets[2], 0);
-    fill_with_remarks(&sheets[6], &sheets[2], EAS_REMARK_ROOM);
-    fill_with_remarks(&sheets[7], &sheets[2], EAS_REMARK_ROOM);
-    sheets[7].n--;
+    sheets[5].n = put_with_remarks(sheets[5].bytes, sheets[2].bytes, 0);
+    sheets[6].n = put_with_remarks(sheets[6].bytes, sheets[2].bytes, REMARK_MOST);
+    sheets[7].n = put_with_remarks(sheets[7].bytes, sheets[2].bytes, REMARK_MOST) - 1;
     for (int i = 0; i < SHEETS; i++)
         sheets[i].accepted = eas_check(sheets[i].bytes, sheets[i].n) == 0;
 }

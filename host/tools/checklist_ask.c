@@ -6,6 +6,7 @@
 
 #include "options.h"
 #include "reference/answer.h"
+#include "same.h"
 
 enum { LIST_MOST = 65536 };
 
@@ -154,13 +155,7 @@ static void ask_all(asked_sheet *sheet) {
 /* The same sheet with empty remarks. */
 static asked_sheet *without_remarks(const asked_sheet *sheet) {
     asked_sheet *bare = checked(calloc(1, sizeof *bare));
-    size_t at = HEAD;
-    bare->n = put_head(bare->bytes);
-    put_version(bare->bytes, sheet_version(sheet->bytes));
-    for (unsigned left = record_count(sheet->bytes); left > 0; left--) {
-        state s = next_state(sheet->bytes, &at);
-        bare->n = append_record(bare->bytes, bare->n, s.name, s.length, s.kind, s.first, s.second);
-    }
+    bare->n = put_with_remarks(bare->bytes, sheet->bytes, 0);
     bare->count = sheet->count;
     bare->names = checked(malloc(sheet->count * sizeof *bare->names));
     memcpy(bare->names, sheet->names, sheet->count * sizeof *bare->names);
@@ -171,10 +166,6 @@ static bool same_lines(const listing_line *a, const listing_line *b) {
     return a->length == b->length && !memcmp(a->bytes, b->bytes, a->length);
 }
 
-static bool same_marks(const eas_mark *a, const eas_mark *b) {
-    return a->blank == b->blank && a->point.across == b->point.across && a->point.up == b->point.up;
-}
-
 /* No answer may depend on remarks. */
 static void compare_without_remarks(asked_sheet *sheet) {
     asked_sheet *bare = without_remarks(sheet);
@@ -182,7 +173,7 @@ static void compare_without_remarks(asked_sheet *sheet) {
     for (size_t i = 0; i < sheet->count; i++) {
         asked_name *own = &sheet->names[i], *other = &bare->names[i];
         own->by_remarks[BY_SEARCH] = answers_differ(&own->answer, &other->answer) != NULL;
-        own->by_remarks[BY_PLOT] = !same_marks(&own->mark, &other->mark);
+        own->by_remarks[BY_PLOT] = !same_mark(own->mark, other->mark);
         own->by_remarks[BY_LINE] = !same_lines(&own->line, &other->line);
         own->by_remarks[BY_LIST] = !same_lines(&own->listed, &other->listed);
     }

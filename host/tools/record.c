@@ -19,7 +19,7 @@ unsigned sheet_version(const uint8_t *sheet) {
     return (unsigned)get_number(sheet + 3, 2);
 }
 
-void put_version(uint8_t *sheet, unsigned version) {
+static void put_version(uint8_t *sheet, unsigned version) {
     put_number(sheet + 3, 2, version);
 }
 
@@ -90,6 +90,21 @@ size_t length_with(const uint8_t *sheet, size_t n, size_t name_length, size_t re
     bool first_remark = remark_length > 0 && !has_remarks(sheet);
     return n + 1 + name_length + RECORD_REST + (has_remarks(sheet) || first_remark) + remark_length +
            (first_remark ? record_count(sheet) : 0);
+}
+
+size_t put_with_remarks(uint8_t *to, const uint8_t *sheet, size_t length) {
+    uint8_t remark[REMARK_MOST];
+    size_t n = put_head(to), at = HEAD;
+    memset(remark, 'r', sizeof remark);
+    put_version(to, 2);
+    for (unsigned left = record_count(sheet); left > 0; left--) {
+        state s = next_state(sheet, &at);
+        if (length_with(to, n, s.length, length) > SHEET_MOST)
+            break;
+        n = append_record(to, n, s.name, s.length, s.kind, s.first, s.second);
+        n = append_remark(to, n, remark, length);
+    }
+    return n;
 }
 
 eas_answer search_state(const uint8_t *sheet, size_t n, const state *s) {

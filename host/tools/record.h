@@ -47,9 +47,12 @@ size_t append_remark(uint8_t *sheet, size_t n, const uint8_t *remark, size_t len
 /* How long a sheet of n bytes becomes by a record with a name and a remark of these lengths. */
 size_t length_with(const uint8_t *sheet, size_t n, size_t name_length, size_t remark_length);
 
-/* The version of a sheet, and how many records an accepted one has. A version may be put where no record stands yet. */
+/* Writes the records of an accepted sheet into one of version 2, each with a remark of this many bytes, as many as fit;
+ * returns its length. */
+size_t put_with_remarks(uint8_t *to, const uint8_t *sheet, size_t length);
+
+/* The version of a sheet, and how many records an accepted one has. */
 unsigned sheet_version(const uint8_t *sheet);
-void put_version(uint8_t *sheet, unsigned version);
 unsigned record_count(const uint8_t *sheet);
 
 /* The record at *at of an accepted sheet; *at moves past it and starts at HEAD. */

@@ -17,13 +17,13 @@ use Rattle.sheet_record.proofs.Local.{number-append}
 use Rattle.sheet.proofs.Entries.{Entry, Entries, ends, then, entryOf, entriesFrom}
 
 -- n is the length byte, `body` holds the name, the kind and the two values
-abbrev entryIn : ℕ → List ℕ → Entry
-entryIn n body = record { name = take n body; kind = getD body n 0; first = numberAt 8 body (n + 1); second = numberAt 8 body (n + 9) }
+abbrev entryIn : List ℕ → ℕ → List ℕ → Entry
+entryIn name n body = record { name = name; kind = getD body n 0; first = numberAt 8 body (n + 1); second = numberAt 8 body (n + 9) }
 
 -- the record, and the entries behind it; none where its tail is cut short
 abbrev followed : ℕ → List ℕ → Option Entries → Entries
 followed n body none = ends 4
-followed n body (some es) = cond (isKnown (kindOf (getD body n 0))) (then (entryIn n body) es) (ends 6)
+followed n body (some es) = cond (isKnown (kindOf (getD body n 0))) (then (entryIn (take n body) n body) es) (ends 6)
 
 abbrev pub inFront : ℕ → List ℕ → Option Entries → Entries
 inFront n body es = cond (eqb n 0 || ltb 40 n) (ends 5) (followed n body es)
@@ -70,9 +70,9 @@ module _ (y : Layout) (n : ℕ) (body rest : List ℕ) (whole : length body ≡ 
       fieldsIn t = record { len = n; kind = getD body n 0; first = numberAt 8 body (n + 1); second = numberAt 8 body (n + 9); tail = t }
 
       known : (t : ℕ) (b : Bool)
-          → read (cond b (front (fieldsIn t)) (bad 6)) ≡ cond b (then (entryIn n body) (entriesFrom y m (drop t rest))) (ends 6)
+          → read (cond b (front (fieldsIn t)) (bad 6)) ≡ cond b (then (entryIn (take n body) n body) (entriesFrom y m (drop t rest))) (ends 6)
       known t true =
-          ap₂ (λ (x : List ℕ) (es : Entries). then (record { name = x; kind = getD body n 0; first = numberAt 8 body (n + 1); second = numberAt 8 body (n + 9) }) es)
+          ap₂ (λ (x : List ℕ) (es : Entries). then (entryIn x n body) es)
           (take-append-le n body rest (omega arith)) (ap (entriesFrom y m) (behind-head t))
       known t false = refl
 

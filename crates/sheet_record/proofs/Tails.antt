@@ -13,7 +13,8 @@ use lib.Seq.{drop-cons}
 use Rattle.octets.specs.Bytes.{numberAt, after}
 use Rattle.octets.proofs.Numbers.{number-next}
 use Rattle.sheet_record.specs.Layout.{Layout, layoutIn, layoutOf, orPlain, plainLayout, remarkLayout, remarkTail}
-use Rattle.sheet_record.specs.Front.{Tailed}
+use Rattle.sheet_record.specs.Front.{Fields, Tailed}
+use Rattle.sheet_record.proofs.Places.{Sound}
 
 -- a tail of r bytes, where so many are left
 abbrev cut : ℕ → Bool → Option ℕ
@@ -26,6 +27,12 @@ tail-is r room t e = go (leb r room) e
     go : (b : Bool) → cut r b ≡ some t → r ≡ t
     go true h = cc
     go false h = let z : _≡_ {A = ℕ} 0 1 = cc in absurd (omega arith)
+
+-- where a record stands, what follows its values is its tail
+pub tail-here : (s : List ℕ) (at : ℕ) (f : Fields) → Sound (layoutIn s) s at f → {end r : ℕ} → Tailed s end r → end ≡ at + 18 + f .len → r ≡ f .tail
+tail-here s at f w {end} {r} t e =
+    let d : end ≡ at + 18 + getD s at 0 = omega (arith, w .len-is) in
+    tail-is r (length s - end) (f .tail) (sym (t .is) ∙ ap (λ (i : ℕ). layoutIn s .tail (drop i s)) d ∙ w .tailed)
 
 -- a remark behind its length byte, and any bytes behind it
 pub whole-remark : (a u : List ℕ) → remarkTail (length a ∷ (a ++ u)) ≡ some (suc (length a))

@@ -1,6 +1,7 @@
 -- `sheet_head::head_fault` tests the header: each answer is a case of the definition.
 use mathlib.Core.Path.{_≡_, sym, ap}
 use Prim.Native.Nat.{ℕ}
+use native.Mathlib.Omega.{arith}
 use borrow.Author.Tests.{le-ltb, lt-ltb, eq-eqb, ne-eqb}
 use denote.Ref.{now}
 use Rattle.sheet_record.specs.Layout.{layoutOf}
@@ -57,13 +58,18 @@ number-requires : tie.Need-number-requires
 number-requires c κs = search needs
 
 returns-6 : tie.Need-returns-6
-returns-6 c = rw (marked (c .before), eq-eqb _ _ (c .if6 .taken))
+returns-6 c = rw (marked (c .before), eq-eqb (c .before .number .result) 1 (omega (arith, c .if6 .taken)))
 
 returns-7 : tie.Need-returns-7
-returns-7 c = rw (marked (c .before .before), ne-eqb _ _ (c .before .if6 .left), eq-eqb _ _ (c .if7 .taken))
+returns-7 c =
+    let v = c .before .before .number .result in
+    let z = c .if7 .taken in
+    rw (marked (c .before .before), ne-eqb v 1 (λ e. omega arith), eq-eqb v 2 (omega arith))
 
 returns-8 : tie.Need-returns-8
-returns-8 c = rw (marked (c .before .before), ne-eqb _ _ (c .before .if6 .left), ne-eqb _ _ (c .if7 .left))
+returns-8 c =
+    let v = c .before .before .number .result in
+    rw (marked (c .before .before), ne-eqb v 1 (λ e. omega (arith, c .before .if6 .left, e)), ne-eqb v 2 (λ e. omega (arith, c .if7 .left, e)))
 
 pub head-fault-spec : {M : Type 1} → statement M
 head-fault-spec =

@@ -16,6 +16,13 @@ use Rattle.sheet_record.proofs.fault_at.Tie as tie
 abbrev tail-of : tie.Start → ℕ
 tail-of c = length (now (c .args .s)) - (c .args .at + 1)
 
+-- how many bytes follow the values
+abbrev room-behind : tie.Else4 → ℕ
+room-behind f =
+    let l = f .before .before .before in
+    let b = l .before .before .before .before .args in
+    length (now (b .s)) - (b .at + 18 + l .long .result)
+
 -- a record that passes the tests before its tail
 tested : (f : tie.Else4) → let l = f .before .before .before in let b = l .before .before .before .before .args in let s = now (b .s) in let n = l .long .result in
     frontOf (layoutIn s) (drop (b .at) s) ≡ tailedAt s (b .at) n (layoutIn s .tail (drop (b .at + 18 + n) s))
@@ -77,7 +84,7 @@ tail-at-requires c κs = search needs
 returns-5 : tie.Need-returns-5
 returns-5 c =
     let t = c .before in
-    rw (tested (t .before), t .tail-at .ensures .is, lt-leb _ _ (c .if5 .taken))
+    rw (tested (t .before), t .tail-at .ensures .is, lt-leb (t .tail-at .result) (room-behind (t .before)) (omega (arith, c .if5 .taken)))
 
 add-is-known : tie.Need-add-is-known
 add-is-known c = search needs
@@ -91,12 +98,14 @@ is-known-requires c κs = search needs
 returns-6 : tie.Need-returns-6
 returns-6 c =
     let e = c .before .before .before in
-    rw (tested (e .before .before), e .before .tail-at .ensures .is, le-leb _ _ (e .if5 .left), sym (c .before .is-known .ensures) ∙ c .if6 .taken)
+    let t = e .before in
+    rw (tested (t .before), t .tail-at .ensures .is, le-leb (t .tail-at .result) (room-behind (t .before)) (omega (arith, e .if5 .left)), sym (c .before .is-known .ensures) ∙ c .if6 .taken)
 
 returns-7 : tie.Need-returns-7
 returns-7 c =
     let e = c .before .before .before in
-    rw (tested (e .before .before), e .before .tail-at .ensures .is, le-leb _ _ (e .if5 .left), sym (c .before .is-known .ensures) ∙ c .if6 .left)
+    let t = e .before in
+    rw (tested (t .before), t .tail-at .ensures .is, le-leb (t .tail-at .result) (room-behind (t .before)) (omega (arith, e .if5 .left)), sym (c .before .is-known .ensures) ∙ c .if6 .left)
 
 pub fault-at-spec : {M : Type 1} → statement M
 fault-at-spec =

@@ -1,13 +1,11 @@
 -- `sheet_record::past_at` goes past a record and its tail, which is whole.
-use mathlib.Core.Path.{_≡_, sym, ap, _∙_}
-use Prim.Native.Nat.{ℕ, _+_}
+use mathlib.Core.Path.{_≡_}
 use native.Mathlib.Omega.{arith}
 use denote.Ref.{now}
-use lib.ListN.{drop}
 use Rattle.sheet_record.specs.Layout.{layoutIn}
 use Rattle.sheet_record.proofs.Places.{Stands}
 use Rattle.sheet_record.proofs.Steps.{stands-there}
-use Rattle.sheet_record.proofs.Tails.{tail-is}
+use Rattle.sheet_record.proofs.Tails.{tail-here}
 use borrow.Author.Needs.{needs}
 use Rattle.sheet_record.proofs.past_at.Statement.{statement}
 use Rattle.sheet_record.proofs.past_at.Tie as tie
@@ -19,10 +17,8 @@ here c = let s = now (c .args .s) in stands-there (layoutIn s) s (c .args .at) (
 is : (c : tie.After-tail-at) → c .tail-at .result ≡ here (c .before .before .before .before) .fields .tail
 is c =
     let b = c .before .before .before .before in
-    let s = now (b .args .s) in
     let p = here b in
-    tail-is (c .tail-at .result) _ (p .fields .tail)
-    (sym (c .tail-at .ensures .is) ∙ ap (λ (n : ℕ). layoutIn s .tail (drop (b .args .at + 18 + n) s)) (c .before .long .ensures .0) ∙ p .sound .tailed)
+    tail-here (now (b .args .s)) (b .args .at) (p .fields) (p .sound) (c .tail-at .ensures) (omega (arith, p .sound .len-is, c .before .long .ensures .0))
 
 add-end : tie.Need-add-end
 add-end c = record { fits = omega (arith, here (c .before) .sound .fits, c .before .good) }

@@ -1,8 +1,9 @@
 -- `sheet_record::tail_at` looks at the version, then at a remark's length byte.
-use mathlib.Core.Path.{sym, _∙_}
+use mathlib.Core.Path.{sym, subst, _∙_}
 use native.Mathlib.Omega.{arith}
 use borrow.Author.Tests.{eqb-true, eqb-false}
 use denote.Ref.{now}
+use Rattle.sheet_record.specs.Front.{Tailed}
 use Rattle.sheet_record.proofs.Tails.{tailed-none, tailed-cut, tailed-remark}
 use borrow.Author.Needs.{needs}
 use Rattle.sheet_record.proofs.tail_at.Statement.{statement}
@@ -31,7 +32,7 @@ returns-2 c =
     let e = c .before .before in
     let h = e .before .before in
     let g = h .before .before .args in
-    rw (c .long .ensures .0)
+    subst (Tailed (now (g .s)) (g .end)) (omega (arith, c .long .ensures .0))
     (tailed-remark (now (g .s)) (g .end) (eqb-true _ _ (sym (h .has-remarks .ensures) ∙ e .before .if1 .taken)) (omega arith) (rw (c .long .ensures .0) at (c .long .ensures .1)))
 
 returns-3 : tie.Need-returns-3

@@ -1,4 +1,6 @@
 -- `sheet_remark::remark_at` leaves out the length byte.
+use mathlib.Core.Path.{ap₂, _∙_}
+use Prim.Native.Nat.{ℕ}
 use native.Mathlib.Omega.{arith}
 use denote.Ref.{now}
 use Rattle.sheet_remark.proofs.Remarks.{whole-is, none-follow, some-follow}
@@ -23,7 +25,10 @@ sub-t6 : tie.Need-sub-t6
 sub-t6 c = search needs
 
 returns-2 : tie.Need-returns-2
-returns-2 c = let b = c .before .before .before in some-follow (now (b .args .s)) (b .args .end) (b .pre .1) _ (c .before .tail-at .ensures) (c .if1 .left)
+returns-2 c =
+    let b = c .before .before .before in
+    ap₂ (λ (i n : ℕ). record { start = i; len = n }) (omega arith) (omega arith)
+    ∙ some-follow (now (b .args .s)) (b .args .end) (b .pre .1) (c .before .tail-at .result) (c .before .tail-at .ensures) (c .if1 .left)
 
 pub remark-at-spec : {M : Type 1} → statement M
 remark-at-spec = tie.close (tie.spec tail-at-requires returns add-t5 sub-t6 returns-2)

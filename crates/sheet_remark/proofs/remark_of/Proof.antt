@@ -32,7 +32,9 @@ add-remark-at-2 : tie.Need-add-remark-at-2
 add-remark-at-2 c = record { fits = omega (arith, whole c .fits, c .before .before .before .before .before .good) }
 
 remark-at-requires : tie.Need-remark-at-requires
-remark-at-requires c κs = (omega (arith, whole c .fits), whole c)
+remark-at-requires c κs =
+    let s = now (c .before .before .before .before .before .args .s) in
+    (omega (arith, whole c .fits), subst (Whole (layoutIn s) s) (omega arith) (whole c))
 
 returns : tie.Need-returns
 returns c =
