@@ -4,6 +4,7 @@ use Prim.Native.Nat.{ℕ}
 use native.Mathlib.Omega.{arith}
 use borrow.Author.Tests.{le-ltb, lt-ltb, eq-eqb, ne-eqb}
 use denote.Ref.{now}
+use lib.ListN.{getD}
 use Rattle.sheet_record.specs.Layout.{layoutOf}
 use Rattle.sheet_head.specs.Head.{versionFault, headFault}
 use Rattle.sheet_head.proofs.Head.{mark-bytes}
@@ -16,7 +17,7 @@ marked : (c : tie.After-number) → headFault (now (c .before .before .before .b
 unfolding headFault
 marked c =
     let s = now (c .before .before .before .before .before .before .before .before .before .before .args .s) in
-    simp (le-ltb 65536 _ (c .before .before .before .before .before .before .before .before .if1 .left), le-ltb _ 7 (c .before .before .before .before .before .before .before .if2 .left), mark-bytes s (c .before .before .before .before .before .before .before .if2 .left), eq-eqb _ _ (c .before .before .before .before .before .if3 .left), eq-eqb _ _ (c .before .before .before .if4 .left), eq-eqb _ _ (c .before .if5 .left))
+    simp (le-ltb 65536 _ (c .before .before .before .before .before .before .before .before .if1 .left), le-ltb _ 7 (c .before .before .before .before .before .before .before .if2 .left), mark-bytes s (c .before .before .before .before .before .before .before .if2 .left), eq-eqb _ _ (c .before .before .before .before .before .if3 .left), eq-eqb _ _ (c .before .before .before .if4 .left), eq-eqb (getD s 2 0) 83 (omega (arith, c .before .if5 .left)))
     (ap (λ (v : ℕ). versionFault (layoutOf v)) (sym (c .number .ensures)))
 
 returns : tie.Need-returns
