@@ -43,9 +43,9 @@ extern "C" {
 
 /* The version of this header. The library has the same soname as long as the first number stays. */
 #define EAS_VERSION_MAJOR 2
-#define EAS_VERSION_MINOR 4
+#define EAS_VERSION_MINOR 5
 #define EAS_VERSION_PATCH 0
-#define EAS_VERSION "2.4.0"
+#define EAS_VERSION "2.5.0"
 
 /* Whether this header is of a version or a later one: #if !EAS_VERSION_AT_LEAST(2, 0, 0) ... #error */
 #define EAS_VERSION_AT_LEAST(major, minor, patch)                                                                      \
@@ -64,9 +64,9 @@ enum {
 /* Refusals, in the order in which they are looked for: the first that applies is given. */
 enum {
     /* the sheet as a whole */
-    EAS_SHEET_TOO_LONG = 1,  /* over 65,536 bytes */
+    EAS_SHEET_TOO_LONG = 1,  /* over 65,536 bytes; after all the sheet's own, a sheet that eas_forward would make */
     EAS_NOT_A_SHEET = 2,     /* under 7 bytes, or the first three are not EAS */
-    EAS_VERSION_UNKNOWN = 3, /* its version is neither 1 nor 2 */
+    EAS_VERSION_UNKNOWN = 3, /* its version is neither 1 nor 2; for eas_forward not 1, for eas_back not 2 */
     /* each record in turn */
     EAS_RECORD_CUT = 4, /* its length byte, its rest or its remark is cut; after the records, bytes are left over */
     EAS_RECORD_NAME_LENGTH = 5, /* its name's length is 0 or over 40 */
@@ -85,6 +85,8 @@ enum {
     EAS_NOT_FITTED = 17,       /* a pressure, in place of 12 and 13 and in a join by either edge: its z is above its
                                   band's limit, or an exponential that is taken from one has an exponent less than 0.05
                                   from 0; else its gamma is not above 1.01, or is 2 or more */
+    /* a sheet that eas_back would make, after the sheet's own */
+    EAS_REMARK_NOT_EMPTY = 18, /* a record has a remark, which version 1 does not hold */
     /* a text */
     EAS_ROOM_TOO_SHORT = 14, /* the room is shorter than the text */
     EAS_LIST_TOO_LONG = 15   /* the name list is over 65,536 bytes */
@@ -96,11 +98,11 @@ static inline const char *eas_reason(uint32_t number) {
     case 0:
         return "not refused";
     case EAS_SHEET_TOO_LONG:
-        return "the sheet is over 65,536 bytes";
+        return "the sheet is, or would become, over 65,536 bytes";
     case EAS_NOT_A_SHEET:
         return "not a sheet: under 7 bytes, or it does not begin with EAS";
     case EAS_VERSION_UNKNOWN:
-        return "the sheet's version is neither 1 nor 2";
+        return "the sheet's version is not one that is read here";
     case EAS_RECORD_CUT:
         return "bytes are missing from a record, or left over after the last";
     case EAS_RECORD_NAME_LENGTH:
@@ -123,6 +125,8 @@ static inline const char *eas_reason(uint32_t number) {
         return "the fitted temperature is outside 273.15 to about 24,900 K";
     case EAS_NOT_FITTED:
         return "energy outside what the pressure fits cover at this density";
+    case EAS_REMARK_NOT_EMPTY:
+        return "a state has a remark, which version 1 of the sheet does not hold";
     case EAS_ROOM_TOO_SHORT:
         return "the room for the text is too short";
     case EAS_LIST_TOO_LONG:
@@ -234,6 +238,19 @@ eas_text eas_spell(const uint8_t *name, size_t n, uint8_t *out, size_t room);
 /* Reads a spelled name: 7 or 8, or 14 where the room is shorter than the name; EAS_NAME_ROOM bytes are always enough.
  */
 eas_text eas_read(const uint8_t *spelled, size_t n, uint8_t *out, size_t room);
+
+/* Writes a sheet of version 1 in version 2, with empty remarks: 1 to 6 or 16 of the sheet, 3 for every version but 1;
+ * then 1 where the result is over 65,536 bytes; then 14. The result has a byte more for each record: EAS_SHEET_ROOM
+ * bytes are always enough. */
+eas_text eas_forward(const uint8_t *sheet, size_t n, uint8_t *out, size_t room);
+
+/* Writes a sheet of version 2 in version 1, for older copies of the library: 1 to 6 or 16 of the sheet, 3 for every
+ * version but 2; then 18 where a remark is not empty; then 14. The result has a byte less for each record.
+ *
+ * What either writes is an accepted sheet with the same names, kinds and values in the same order: every other call
+ * that takes a sheet gives for the one what it gives for the other, the places of names and remarks aside. Forward then
+ * back, and back then forward, return the same bytes. */
+eas_text eas_back(const uint8_t *sheet, size_t n, uint8_t *out, size_t room);
 
 #ifdef __cplusplus
 }

@@ -1,5 +1,5 @@
 """docs/MUST-FAIL.md tells of every must-fail edit, once and under its crate, the fact that it breaks. Neither it nor the checklist's
-document names an edit that is not there."""
+document names an edit that is not there. An edit has no line that rt passes over: what it replaces, and by what, is one line each."""
 
 import re
 import sys
@@ -19,7 +19,15 @@ def told():
     return rows
 
 
+def passed_over(path):
+    """the lines of an edit that are no comment and say nothing to rt"""
+    return [line for line in path.read_text().splitlines() if not re.match(r"#|file: |old: |new: ?", line)]
+
+
 def main():
+    for path in (ROOT / "crates").glob("*/must-fail/*.edit"):
+        if lines := passed_over(path):
+            sys.exit(f"{path.parts[-3]}/{path.stem} has a line that is passed over: {lines[0]}")
     edits = sorted((path.parts[-3], path.stem) for path in (ROOT / "crates").glob("*/must-fail/*.edit"))
     rows = told()
     for crate, label in sorted(set(edits) ^ set(rows)):

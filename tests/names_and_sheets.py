@@ -1,18 +1,26 @@
-"""Judges every line of crates/vectors/stdout that answers a read, write, check or find of crates/vectors/stdin: spelled names
-and sheets. Written from document 01 (Names, State sheet, Where an input stops) and request 5 (remarks) alone.
+"""Judges every line of crates/vectors/stdout that answers a read, write, check, find, forward or back of crates/vectors/stdin:
+spelled names and sheets. Written from document 01 (Names, State sheet, Where an input stops) and requests 5 (remarks) and
+6 (one version of a sheet to the other) alone.
 A line that is wrong fails, and so does a refusal that no line visits."""
 
 import re
 import sys
+from functools import partial
 from pathlib import Path
 
 VECTORS = Path(__file__).resolve().parent.parent / "crates" / "vectors"
 SPELLING = re.compile(rb"([A-Za-z0-9._~-]|%[0-9A-Fa-f]{2})*")
 KINDS = (1, 2, 3)
+LONGEST = 65_536
+PRIME = 4_294_967_291
 
 
 def number(big_endian):
     return int.from_bytes(big_endian, "big")
+
+
+def decimals(values):
+    return b"".join(b" %d" % b for b in values)
 
 
 def is_length(n):
@@ -47,16 +55,21 @@ def read(text):
     name = coded(rb"%(..)", spelling)
     if not is_length(len(name)):
         return 8, b" refused 8"
-    return 0, b"".join(b" %d" % b for b in name) + b", written " + spelled(name)
+    return 0, decimals(name) + b", written " + spelled(name)
+
+
+def put(text, room, refusal):
+    """a refusal, or 14 where none came before it; what a line says; the room with the text at its start, or as it was"""
+    refusal = refusal or (14 if len(room) < len(text) else 0)
+    if refusal:
+        return refusal, b" refused %d" % refusal, room
+    return 0, b" %d" % len(text), text + room[len(text) :]
 
 
 def write(room_text, name_text):
-    room, name = word(room_text), word(name_text)
-    text = spelled(name)
-    refusal = 8 if not is_length(len(name)) else 14 if len(room) < len(text) else 0
-    if refusal:
-        return refusal, b" refused %d <%s>" % (refusal, room)
-    return 0, b" %d <%s>" % (len(text), text + room[len(text) :])
+    name = word(name_text)
+    refusal, says, room = put(spelled(name), word(room_text), 0 if is_length(len(name)) else 8)
+    return refusal, says + b" <%s>" % room
 
 
 def behind(s, at, version):
@@ -68,14 +81,14 @@ def behind(s, at, version):
     return at if at <= len(s) else None
 
 
-def records(s):
-    """a refusal's number and the records by name"""
-    if len(s) > 65_536:
+def records(s, versions=(1, 2)):
+    """a refusal's number and the records by name, in their order"""
+    if len(s) > LONGEST:
         return 1, {}
     if len(s) < 7 or s[:3] != b"EAS":
         return 2, {}
     version = number(s[3:5])
-    if version not in (1, 2):
+    if version not in versions:
         return 3, {}
     found, at = {}, 7
     for _ in range(number(s[5:7])):
@@ -112,12 +125,43 @@ def find(sheet_text, spelling_text):
     return 0, b" kind %d first %d second %d at %d remark at %d length %d <%s>" % (*found[name], name)
 
 
+def sheet_of(found, version):
+    """the sheet with these records, in version 2 with empty remarks"""
+    remark = b"\0" if version == 2 else b""
+    text = b"EAS" + version.to_bytes(2, "big") + len(found).to_bytes(2, "big")
+    for name, (kind, first, second, *_) in found.items():
+        text += bytes([len(name)]) + name + bytes([kind]) + first.to_bytes(8, "big") + second.to_bytes(8, "big") + remark
+    return text
+
+
+def whole(room):
+    """the bytes of a short room, the remainder of a long one as a number"""
+    if len(room) <= 100:
+        return b", room" + decimals(room)
+    return b", remainder %d" % (number(room) % PRIME)
+
+
+def convert(version, other, room_text, sheet_text):
+    """a sheet of a version in the other one, in a room of so many dots"""
+    s = sheet(sheet_text)
+    refusal, found = records(s, (version,))
+    text = sheet_of(found, other)
+    remarks = any(length for *_, length in found.values())
+    refusal = refusal or (18 if remarks else 1 if len(text) > LONGEST else 0)
+    if not refusal and sheet_of(records(text, (other,))[1], version) != s:
+        sys.exit(f"not the same bytes there and back: {sheet_text}")
+    refusal, says, room = put(text, b"." * int(room_text), refusal)
+    return refusal, says + whole(room)
+
+
 # how many words a case has before its label, and the numbers that its lines must show
 CASES = {
     b"read": (read, 1, {0, 7, 8}),
     b"write": (write, 2, {0, 8, 14}),
     b"check": (check, 1, {0, 1, 2, 3, 4, 5, 6, 16}),
     b"find": (find, 2, {0, 3, 4, 6, 7, 8, 9, 16}),
+    b"forward": (partial(convert, 1, 2), 2, {0, 1, 2, 3, 4, 5, 6, 14, 16}),
+    b"back": (partial(convert, 2, 1), 2, {0, 1, 2, 3, 4, 5, 6, 14, 16, 18}),
 }
 
 

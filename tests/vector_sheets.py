@@ -1,5 +1,5 @@
-"""The sheets of crates/vectors/data, from document 01, State sheet, and request 5 (remarks). Compares the folder with them;
---write writes it."""
+"""The sheets of crates/vectors/data, from document 01, State sheet, and requests 5 (remarks) and 6 (one version to the other).
+Compares the folder with them; --write writes it."""
 
 import sys
 from pathlib import Path
@@ -38,6 +38,15 @@ MOST = remarked(ONES + PAIRS, [b""] * 3131 + [b"most records\n"])
 TURNED = bytes(range(255))
 LONGEST = remarked(numbered(1, [*range(140, 256), *range(123)]), [TURNED[i:] + TURNED[:i] for i in range(238)] + [TURNED[:59]])
 
+# the most records whose sheet of version 2 with empty remarks has 65,536 bytes: 256 names of one byte, 2,863 of two, 13 of three;
+# with a byte more in a name it is too long
+FITTING, LONGER = (ONES + TWOS[: 2876 - n] + numbered(3, range(n)) for n in (13, 14))
+
+
+def with_remark(place):
+    """three records, the one at a place with a remark of 255 bytes"""
+    return sheet(remarked(ONES[97:100], [TURNED if i == place else b"" for i in range(3)]), version=2)
+
 
 def last(records):
     """the full sheet with another last record"""
@@ -68,6 +77,11 @@ def sheets():
     yield "remarks_last_cut", sheet(MOST, version=2)[:-1]
     yield "remarks_last_seen", sheet(MOST[:-1] + remarked(PAIRS[211:212], [b"seen earlier\n"]), version=2)
     yield "remarks_too_long", sheet(MOST, version=2) + b"\0"
+    yield "forward_to_65536", sheet(FITTING)
+    yield "forward_to_65537", sheet(LONGER)
+    yield "back_from_65536", sheet(remarked(FITTING, [b""] * 3132), version=2)
+    for place, name in enumerate(("first", "middle", "last")):
+        yield f"remark_255_{name}", with_remark(place)
 
 
 def main():

@@ -97,14 +97,19 @@ static void prepare(table *t, unsigned count) {
     memset(t->head, 0xff, slots * sizeof *t->head);
 }
 
-static uint32_t fill(table *t, const uint8_t *sheet, size_t n) {
+static unsigned count_of(const uint8_t *sheet) {
+    return (unsigned)sheet[5] << 8 | sheet[6];
+}
+
+/* Reads sheets of the first version up to the last. */
+static uint32_t fill_of(table *t, const uint8_t *sheet, size_t n, uint8_t first, uint8_t last) {
     if (n > 65536)
         return 1;
     if (n < 7 || memcmp(sheet, "EAS", 3))
         return 2;
-    if (sheet[3] != 0 || (sheet[4] != 1 && sheet[4] != 2))
+    if (sheet[3] != 0 || sheet[4] < first || sheet[4] > last)
         return 3;
-    unsigned left = (unsigned)sheet[5] << 8 | sheet[6];
+    unsigned left = count_of(sheet);
     prepare(t, left);
     size_t at = 7;
     for (; left > 0; left--) {
@@ -113,6 +118,10 @@ static uint32_t fill(table *t, const uint8_t *sheet, size_t n) {
             return number;
     }
     return at == n ? 0 : 4;
+}
+
+static uint32_t fill(table *t, const uint8_t *sheet, size_t n) {
+    return fill_of(t, sheet, n, 1, 2);
 }
 
 uint32_t baseline_check(const uint8_t *sheet, size_t n) {
@@ -145,6 +154,56 @@ eas_part baseline_remark(const uint8_t *sheet, size_t n, const uint8_t *spelled,
         return (eas_part){.number = found.number};
     size_t at = found.start + found.length + 17;
     return sheet[4] == 1 ? (eas_part){0, at, 0} : (eas_part){0, at + 1, sheet[at]};
+}
+
+/* Copies an accepted sheet's records without remarks into one of the other version. */
+static void copy_records(const uint8_t *sheet, uint8_t *out) {
+    size_t at = 7;
+    memcpy(out, sheet, 7);
+    out[4] = sheet[4] == 1 ? 2 : 1;
+    out += 7;
+    for (unsigned left = count_of(sheet); left > 0; left--) {
+        size_t size = 1u + sheet[at] + 17;
+        memcpy(out, sheet + at, size);
+        at += size;
+        out += size;
+        if (sheet[4] == 1)
+            *out++ = 0;
+        else
+            at++;
+    }
+}
+
+eas_text baseline_forward(const uint8_t *sheet, size_t n, uint8_t *out, size_t room) {
+    table t;
+    uint32_t number = fill_of(&t, sheet, n, 1, 1);
+    size_t length = number ? 0 : n + t.count;
+    if (number || length > 65536 || length > room)
+        return (eas_text){number ? number : length > 65536 ? 1 : 14, 0};
+    copy_records(sheet, out);
+    return (eas_text){0, length};
+}
+
+/* Whether a record of an accepted sheet of version 2 has a remark. */
+static int is_remarked(const table *t, const uint8_t *sheet) {
+    for (unsigned i = 0; i < t->count; i++) {
+        const uint8_t *record = sheet + t->entry[i].at;
+        if (record[1 + record[0] + 17])
+            return 1;
+    }
+    return 0;
+}
+
+eas_text baseline_back(const uint8_t *sheet, size_t n, uint8_t *out, size_t room) {
+    table t;
+    uint32_t number = fill_of(&t, sheet, n, 2, 2);
+    if (!number && is_remarked(&t, sheet))
+        number = 18;
+    size_t length = number ? 0 : n - t.count;
+    if (number || length > room)
+        return (eas_text){number ? number : 14, 0};
+    copy_records(sheet, out);
+    return (eas_text){0, length};
 }
 
 static int stands_for_itself(uint8_t c) {

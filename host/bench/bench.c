@@ -41,6 +41,11 @@ enum { SHORT_REMARK = 8 };
 static uint8_t remarked_sheet[SHEET_MOST], short_sheet[SHEET_MOST], long_sheet[SHEET_MOST];
 static size_t remarked_size, short_size, long_size;
 
+/* What is converted: the fullest sheet that goes forward, the small one as it goes back; remarked_sheet goes back too.
+ */
+static uint8_t forward_sheet[SHEET_MOST], small_back_sheet[SHEET_MOST], converted[SHEET_MOST];
+static size_t forward_size, small_back_size;
+
 static text small_names[3], full_names[NAMES];
 static uint8_t name_list[SHEET_MOST + 1];
 static size_t name_list_size;
@@ -199,6 +204,14 @@ JOB(library_search_full, FULL_CALLS, eas_search(FULL).value)
 JOB(baseline_search_full, FULL_CALLS, baseline_search(FULL).value)
 JOB(library_search_remarked, FULL_CALLS, eas_search(REMARKED).value)
 JOB(baseline_search_remarked, FULL_CALLS, baseline_search(REMARKED).value)
+JOB(library_forward_small, SMALL_CALLS, eas_forward(small_sheet, small_size, converted, sizeof converted).length)
+JOB(plain_forward_small, SMALL_CALLS, baseline_forward(small_sheet, small_size, converted, sizeof converted).length)
+JOB(library_back_small, SMALL_CALLS, eas_back(small_back_sheet, small_back_size, converted, sizeof converted).length)
+JOB(plain_back_small, SMALL_CALLS, baseline_back(small_back_sheet, small_back_size, converted, sizeof converted).length)
+JOB(library_forward, FULL_CALLS, eas_forward(forward_sheet, forward_size, converted, sizeof converted).length)
+JOB(plain_forward, FULL_CALLS, baseline_forward(forward_sheet, forward_size, converted, sizeof converted).length)
+JOB(library_back, FULL_CALLS, eas_back(remarked_sheet, remarked_size, converted, sizeof converted).length)
+JOB(plain_back, FULL_CALLS, baseline_back(remarked_sheet, remarked_size, converted, sizeof converted).length)
 JOB(library_line, SMALL_CALLS, eas_line(SMALL, line, sizeof line).length)
 JOB(plain_line, SMALL_CALLS, baseline_line(SMALL, (char *)line))
 JOB(library_lines, NAMES, eas_line(FULL, line, sizeof line).length)
@@ -352,6 +365,8 @@ static void make_all(void) {
     remarked_size = put_with_remarks(remarked_sheet, full_sheet, 0);
     short_size = put_with_remarks(short_sheet, full_sheet, SHORT_REMARK);
     long_size = put_with_remarks(long_sheet, full_sheet, REMARK_MOST);
+    forward_size = baseline_back(remarked_sheet, remarked_size, forward_sheet, sizeof forward_sheet).length;
+    small_back_size = baseline_forward(small_sheet, small_size, small_back_sheet, sizeof small_back_sheet).length;
     make_names();
     make_titles();
 }
@@ -361,20 +376,14 @@ static void print_head(void) {
            "entropies, and pressures as temperatures; ",
            states);
     printf("the fullest sheet has %u states in %zu bytes, ", record_count(full_sheet), full_size);
-    printf("of version 2 %u in %zu, with remarks of %d bytes %u, with the longest %u.\n", record_count(remarked_sheet),
+    printf("of version 2 %u in %zu, with remarks of %d bytes %u, with the longest %u; ", record_count(remarked_sheet),
            remarked_size, SHORT_REMARK, record_count(short_sheet), record_count(long_sheet));
+    printf("the fullest that goes forward has %u in %zu bytes.\n", record_count(forward_sheet), forward_size);
     printf("Processor time: median of %d repetitions (least to most).\n\n", REPETITIONS);
     printf("| what | library | plain C | ratio |\n|---|---|---|---|\n");
 }
 
-int main(int argc, char **argv) {
-    if (argc == 2 && !strcmp(argv[1], "--listing"))
-        return be_the_listing();
-    states = argc > 1 ? strtoul(argv[1], NULL, 10) : 1000000;
-    nowhere = fopen("/dev/null", "w");
-    if (states < 3 || !nowhere)
-        return 2;
-    make_all();
+static void measure_rows(void) {
     const row rows[] = {
         {"temperature", "ns", library_temperature, listing_temperature, (double)states, 1e9},
         {"temperature, fitted outside the strips", "ns", library_single, listing_single, (double)states, 1e9},
@@ -392,14 +401,29 @@ int main(int argc, char **argv) {
         {"search, fullest sheet", "µs", library_search_full, baseline_search_full, FULL_CALLS, 1e6},
         {"search, fullest sheet of version 2", "µs", library_search_remarked, baseline_search_remarked, FULL_CALLS,
          1e6},
+        {"forward, sheet of 3 states", "ns", library_forward_small, plain_forward_small, SMALL_CALLS, 1e9},
+        {"back, sheet of 3 states", "ns", library_back_small, plain_back_small, SMALL_CALLS, 1e9},
+        {"forward, fullest sheet that goes forward", "µs", library_forward, plain_forward, FULL_CALLS, 1e6},
+        {"back, fullest sheet of version 2", "µs", library_back, plain_back, FULL_CALLS, 1e6},
         {"listing line, sheet of 3 states", "ns", library_line, plain_line, SMALL_CALLS, 1e9},
         {lines_title, "ms", library_lines, plain_lines, 1, 1e3},
         {list_title, "ms", library_list, plain_list, 1, 1e3},
         {remarked_title, "ms", library_list_remarked, plain_list_remarked, 1, 1e3},
     };
-    print_head();
     for (size_t i = 0; i < sizeof rows / sizeof *rows; i++)
         measure(&rows[i]);
+}
+
+int main(int argc, char **argv) {
+    if (argc == 2 && !strcmp(argv[1], "--listing"))
+        return be_the_listing();
+    states = argc > 1 ? strtoul(argv[1], NULL, 10) : 1000000;
+    nowhere = fopen("/dev/null", "w");
+    if (states < 3 || !nowhere)
+        return 2;
+    make_all();
+    print_head();
+    measure_rows();
     if (argc > 2)
         measure_program(argv[2]);
     return 0;

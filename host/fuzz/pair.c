@@ -75,20 +75,34 @@ static void check_texts(query a, query b) {
     eas_text x = eas_line(a.sheet, a.n, a.spelled, a.m, first, LINE_MOST);
     eas_text y = eas_line(b.sheet, b.n, b.spelled, b.m, second, LINE_MOST);
     require(x.number == 0 && y.number == 0 && x.length == y.length && !memcmp(first, second, x.length),
-            "a line does not depend on remarks");
+            "equal lines of two sheets");
     x = eas_list(a.sheet, a.n, a.spelled, a.m, first, sizeof first);
     y = eas_list(b.sheet, b.n, b.spelled, b.m, second, sizeof second);
     require(x.number == 0 && y.number == 0 && x.length == y.length && !memcmp(first, second, x.length),
-            "a listing does not depend on remarks");
+            "equal listings of two sheets");
 }
 
 static void check_records(query a, query b) {
     require(same_but_place(a.sheet, eas_find(a.sheet, a.n, a.spelled, a.m), b.sheet,
                            eas_find(b.sheet, b.n, b.spelled, b.m)),
-            "a found record does not depend on remarks");
+            "equal found records of two sheets");
     for (unsigned i = 0; i <= record_count(a.sheet) && i < 8; i++)
         require(same_but_place(a.sheet, eas_record_at(a.sheet, a.n, i), b.sheet, eas_record_at(b.sheet, b.n, i)),
-                "a record at a place does not depend on remarks");
+                "equal records at a place of two sheets");
+}
+
+void check_alike(query q, query other) {
+    size_t n = other.n;
+    require(eas_check(q.sheet, q.n) == eas_check(other.sheet, n), "equal numbers of two sheets");
+    eas_answer a = eas_search(q.sheet, q.n, q.spelled, q.m), b = eas_search(other.sheet, n, q.spelled, q.m);
+    require(same_answer(&a, &b), "equal answers of two sheets");
+    require(same_mark(eas_plot(q.sheet, q.n, q.spelled, q.m), eas_plot(other.sheet, n, q.spelled, q.m)),
+            "equal marks of two sheets");
+    check_records(q, other);
+    check_texts(q, other);
+    eas_part remark = eas_remark(other.sheet, n, q.spelled, q.m);
+    eas_part plain = baseline_remark(other.sheet, n, q.spelled, q.m);
+    require(same_part(remark, plain), "the other sheet's own remark");
 }
 
 void check_pair(query q, const uint8_t *bytes, size_t size) {
@@ -96,15 +110,6 @@ void check_pair(query q, const uint8_t *bytes, size_t size) {
     supply from = {bytes, size, 0};
     size_t n = change_remarks(sheet, q.sheet, q.n, &from);
     query other = {guard_take(&other_guard, sheet, n), q.spelled, n, q.m};
-    require(eas_check(q.sheet, q.n) == eas_check(other.sheet, n), "a sheet's number does not depend on remarks");
-    eas_answer a = eas_search(q.sheet, q.n, q.spelled, q.m), b = eas_search(other.sheet, n, q.spelled, q.m);
-    require(same_answer(&a, &b), "an answer does not depend on remarks");
-    require(same_mark(eas_plot(q.sheet, q.n, q.spelled, q.m), eas_plot(other.sheet, n, q.spelled, q.m)),
-            "a mark does not depend on remarks");
-    check_records(q, other);
-    check_texts(q, other);
-    eas_part remark = eas_remark(other.sheet, n, q.spelled, q.m);
-    eas_part plain = baseline_remark(other.sheet, n, q.spelled, q.m);
-    require(same_part(remark, plain), "the other sheet's own remark");
+    check_alike(q, other);
     require(!memcmp(other.sheet, sheet, n), "no call changes the other sheet");
 }

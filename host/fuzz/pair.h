@@ -15,8 +15,12 @@ typedef struct {
 size_t values_size(const uint8_t *sheet, size_t n, size_t at);
 size_t record_size(const uint8_t *sheet, size_t n, size_t at);
 
-/* Aborts where a sheet of version 2 within 65,536 bytes and one that differs from it in remarks only are told apart by
- * another call than eas_remark, the places of their names aside. The other remarks are made of the given bytes. */
+/* Aborts where two sheets, asked for the same name, are told apart by another call than eas_remark, the places of their
+ * names aside, or where the other one's remark is not its own. */
+void check_alike(query q, query other);
+
+/* Checks that for a sheet of version 2 within 65,536 bytes and one that differs from it in remarks only. The other
+ * remarks are made of the given bytes. */
 void check_pair(query q, const uint8_t *bytes, size_t size);
 
 #endif

@@ -1,5 +1,5 @@
-/* Fuzz driver for eas_check, eas_find, eas_remark, eas_record_at, eas_search, eas_plot, eas_line, eas_list and
- * eas_evaluate.
+/* Fuzz driver for eas_check, eas_find, eas_remark, eas_record_at, eas_search, eas_plot, eas_line, eas_list,
+ * eas_forward, eas_back and eas_evaluate.
  *
  * An input is: one byte of options, one byte with the length of a spelled name, the spelled name, and a sheet.
  *   option 1   the sheet's mark, version and count are put right
@@ -7,15 +7,17 @@
  *   option 4   each record's values are brought into their ranges
  *   option 8   the spelled name is that of a record, chosen by the length byte
  *   option 16  the right version is 2, not 1
- *   all the other options set: records are added up to the largest sheet or just past it
+ *   all the other options set: records are added up to the largest sheet or just past it, by the length byte's last
+ *   bit; where its second-last one is set, up to the largest of version 1 that goes forward or just past that
  *
- * Sheets, records and remarks are compared with the plain C calculator, answers judged by the listing's doubles. A
- * sheet of version 2 is compared with one that has other remarks. */
+ * Sheets, records, remarks and conversions are compared with the plain C calculator, answers judged by the listing's
+ * doubles. A sheet of version 2 is compared with one that has other remarks, a converted sheet with its result. */
 #include <stdio.h>
 #include <stdlib.h>
 #include <string.h>
 
 #include "bench/baseline.h"
+#include "convert.h"
 #include "guard.h"
 #include "judge.h"
 #include "pair.h"
@@ -58,18 +60,20 @@ static void repair_records(uint8_t *sheet, size_t n, unsigned options) {
     }
 }
 
-/* Appends records with names of two bytes until `most` is reached, in version 2 with remarks of up to three bytes;
- * returns the new length. */
-static size_t enlarge(uint8_t *sheet, size_t n, size_t most) {
+/* Appends records with names of two bytes, in version 2 with remarks of up to three bytes, as many as `choice` says;
+ * returns the new length. A sheet that is to go forward gets a byte more for each record. */
+static size_t enlarge(uint8_t *sheet, size_t n, unsigned choice) {
     static const uint8_t rest[17] = {1, 0, 0, 0, 0x17, 0x97, 0xbd, 0x18, 0x80, 0, 0, 0, 0x1e, 0x14, 0xeb, 0x8c, 0};
-    size_t at = HEAD, size;
-    while ((size = record_size(sheet, n, at)) > 0)
-        at += size;
-    for (unsigned name = 0; at + (size = sheet[4] == 2 ? 21 + name % 4 : 20) <= most; name++, at += size) {
+    const size_t more = sheet[4] == 1 && choice & 2;
+    size_t at = HEAD, size, most = SHEET_MOST + (choice & 1) * (more ? 21u : 48u);
+    for (; (size = record_size(sheet, n, at)) > 0; at += size)
+        most -= more;
+    for (unsigned name = 0; at + more + (size = sheet[4] == 2 ? 21 + name % 4 : 20) <= most; name++, at += size) {
         sheet[at] = 2;
         put_number(sheet + at + 1, 2, name);
         memcpy(sheet + at + 3, rest, sizeof rest);
         memset(sheet + at + 20, (int)(name % 4), size - 20);
+        most -= more;
     }
     return at;
 }
@@ -240,7 +244,7 @@ int LLVMFuzzerTestOneInput(const uint8_t *data, size_t size) {
     if (options & 1 && n >= HEAD) {
         repair_head(sheet, n, options);
         if ((options | 16) == 255)
-            n = enlarge(sheet, n, SHEET_MOST + (data[1] & 1) * 48u);
+            n = enlarge(sheet, n, data[1]);
         repair_head(sheet, n, options);
         repair_records(sheet, n, options);
     }
@@ -251,6 +255,7 @@ int LLVMFuzzerTestOneInput(const uint8_t *data, size_t size) {
     query q = {guard_take(&sheet_guard, sheet, n), guard_take(&spelled_guard, spelled, m), n, m};
     check_query(q);
     check_state(sheet, n);
+    check_conversions(q);
     if (n >= HEAD && n <= SHEET_MOST && sheet[3] == 0 && sheet[4] == 2)
         check_pair(q, data, size);
     require(n == 0 || !memcmp(q.sheet, sheet, n), "no call changes the sheet");

@@ -34,7 +34,7 @@ static bool parse_remark(eas_part *remark, uint64_t version, const uint8_t *shee
 }
 
 /* Reads the record at *at and moves past it; gives its refusal or 0. */
-static uint32_t parse_record(parsed_sheet *out, uint64_t version, const uint8_t *sheet, size_t n, size_t *at) {
+static uint32_t parse_record(parsed_sheet *out, const uint8_t *sheet, size_t n, size_t *at) {
     if (*at == n)
         return 4;
     eas_record record = {.start = *at + 1, .length = sheet[*at]};
@@ -47,7 +47,7 @@ static uint32_t parse_record(parsed_sheet *out, uint64_t version, const uint8_t 
     record.first = high_byte_first(rest + 1, 8);
     record.second = high_byte_first(rest + 9, 8);
     eas_part remark = {.start = record.start + record.length + 17};
-    if (!parse_remark(&remark, version, sheet, n))
+    if (!parse_remark(&remark, out->version, sheet, n))
         return 4;
     if (!kind_known(record.kind))
         return 6;
@@ -64,12 +64,13 @@ static uint32_t first_refusal(parsed_sheet *out, const uint8_t *sheet, size_t n)
         return 1;
     if (n < 7 || memcmp(sheet, "EAS", 3) != 0)
         return 2;
-    uint64_t version = high_byte_first(sheet + 3, 2), announced = high_byte_first(sheet + 5, 2);
-    if (version != 1 && version != 2)
+    uint64_t announced = high_byte_first(sheet + 5, 2);
+    out->version = high_byte_first(sheet + 3, 2);
+    if (out->version != 1 && out->version != 2)
         return 3;
     size_t at = 7;
     for (uint64_t i = 0; i < announced; i++) {
-        uint32_t number = parse_record(out, version, sheet, n, &at);
+        uint32_t number = parse_record(out, sheet, n, &at);
         if (number != 0)
             return number;
     }
@@ -77,6 +78,7 @@ static uint32_t first_refusal(parsed_sheet *out, const uint8_t *sheet, size_t n)
 }
 
 void sheet_parse(parsed_sheet *out, const uint8_t *sheet, size_t n) {
+    out->version = 0;
     out->count = 0;
     out->number = first_refusal(out, sheet, n);
     if (out->number != 0)

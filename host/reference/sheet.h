@@ -9,7 +9,8 @@
 enum { SHEET_MAX_BYTES = 65536, SHEET_MAX_RECORDS = (SHEET_MAX_BYTES - 7) / 19 };
 
 typedef struct {
-    uint32_t number; /* 0, or 1 to 6, or 16; then count is 0 */
+    uint32_t number;  /* 0, or 1 to 6, or 16; then count is 0 */
+    uint64_t version; /* whatever it is; 0 where 1 or 2 comes before it */
     size_t count;
     eas_record records[SHEET_MAX_RECORDS];
     eas_part remarks[SHEET_MAX_RECORDS]; /* each record's; empty and behind the record in version 1 */

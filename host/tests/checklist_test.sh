@@ -96,6 +96,13 @@ passes_with_remarks() {
         verdict "Given sheet" "Every other state" "PASSED at 1 state, such as plain"
 }
 
+# A sheet that is too long for version 2 is rightly not converted.
+passes_when_full() {
+    { echo name,pressure_Pa,density_kg_m3; seq 1000 3977 | sed 's|$|,101330,1.292|'; } > "$work/full.csv" &&
+        "$build/sheet_tool" pack -o "$work/full.eas" "$work/full.csv" && status 1 "$build/checklist" "$work/full.eas" &&
+        verdict "Given sheet" 1 "NO STATE TO LOOK AT" && verdict "Given sheet" 2 PASSED
+}
+
 # Names that are the numbers of their rows cannot tell a name from a row.
 needs_names_unlike_rows() {
     sheet "$work/rows.eas" name,pressure_Pa,density_kg_m3 1,101330,1.292 2,202660,1.292 &&
@@ -139,6 +146,18 @@ finds_by_remarks() {
 # The same states without remarks pass.
 passes_without_remarks() {
     status 1 env FAULT=9 "$build/faults" "$work/complete.eas" && all_pass "Given sheet"
+}
+
+# finds_lost_remarks: check 1 fails, and no other, on the samples and on a sheet with remarks; one without passes.
+finds_lost_remarks() {
+    status 1 env FAULT=11 "$build/faults" "$work/remarks.eas" && fails_only "Shipped samples" 1 &&
+        fails_only "Given sheet" 1 && has "remarks.eas to version 1: the library says \"not refused\", right is \"a state" &&
+        status 1 env FAULT=11 "$build/faults" "$work/complete.eas" && all_pass "Given sheet"
+}
+
+# tells_conversion ENTRY WORDS: what a conversion by this entry loses of a sheet of version 1 is told in words.
+tells_conversion() {
+    status 1 env FAULT=10 ENTRY="$1" "$build/faults" "$work/complete.eas" && group "Given sheet" | grep -q "$2"
 }
 
 # names_cause FAULT WORDS [SHEET]: the mistake is told in words.
@@ -188,6 +207,7 @@ expect "the samples pass through the shim without a fault" passes_samples faults
 expect "what a sheet lacks is told" tells_what_is_missing
 expect "a sheet with all examples passes" passes_complete_sheet
 expect "so does one with remarks" passes_with_remarks
+expect "so does one that version 2 does not hold" passes_when_full
 expect "names like their rows cannot tell" needs_names_unlike_rows
 expect "a name that was never decoded is called out" calls_out nose%2Fcap%201 nose%2Fcap%201 nose%252Fcap%25201
 expect "a name that was encoded in part is called out" calls_out nose/cap%201 nose%2Fcap%201 nose%2Fcap%25201
@@ -210,6 +230,14 @@ for entry in "" search plot line list; do
     expect "an answer that depends on remarks is found, by ${entry:-every entry}" finds_by_remarks $entry
 done
 expect "without remarks it is right" passes_without_remarks
+for entry in "" forward back; do
+    expect "a conversion that loses a state is found, by ${entry:-every entry}" finds 10 1 $entry
+done
+expect "a state that is lost is told" tells_conversion forward \
+    "(right, but another where the sheet is converted to its other version)"
+expect "a sheet that does not come back is told" tells_conversion back \
+    "complete.eas to version 2 and back does not return the same bytes"
+expect "a conversion that loses remarks is found" finds_lost_remarks
 expect "remarks that change an answer are named" names_cause 9 "the sheet's remarks change what is shown)" "$work/remarks.eas"
 expect "a neighbour's curve is named" names_cause 3 "by the curve of the neighbouring density range)"
 expect "a missing join is named" names_cause 7 "by the curve of one density range, not joined between two)"

@@ -1,13 +1,15 @@
-/* Compares the library with the reference on edge and random inputs, and its answers to sheets that differ in remarks.
+/* Compares the library with the reference on edge and random inputs, and its answers to sheets that differ in remarks
+ * or are converted into each other.
  *
  * differential [seed [count]]: count is the number of sheets and of spellings, 200,000 by default; of states there are
- * half as many again, of pairs of sheets a quarter. A case depends on the seed and its index alone, so that a failure
- * is repeated by giving its seed.
+ * half as many again, of pairs of sheets and of sheets to convert a quarter each. A case depends on the seed and its
+ * index alone, so that a failure is repeated by giving its seed.
  */
 #include "differential.h"
 
 #include <stdlib.h>
 
+#include "pairs.h"
 #include "tally.h"
 
 int main(int count, char **arguments) {
@@ -16,7 +18,9 @@ int main(int count, char **arguments) {
     tally_start("differential", seed);
     compare_states(seed, cases);
     compare_sheets(seed, cases);
+    pairs_open();
     compare_remarks(seed, cases / 4);
+    compare_conversions(seed, cases / 4);
     compare_spellings(seed, cases);
     return tally_end();
 }

@@ -6,6 +6,7 @@
 #include "differential.h"
 #include "lent.h"
 #include "lists.h"
+#include "reach.h"
 #include "reference/answer.h"
 #include "reference/line.h"
 #include "reference/sheet.h"
@@ -290,15 +291,6 @@ static void compare_printed_listing(void) {
     }
 }
 
-static void check_numbers(const char *title, const uint64_t *counts, const uint32_t *numbers, int count) {
-    printf("  %s:", title);
-    for (int i = 0; i < count; i++)
-        printf(" %" PRIu32 ": %" PRIu64, numbers[i], counts[numbers[i]]);
-    printf("\n");
-    for (int i = 0; i < count; i++)
-        tally_check(counts[numbers[i]] > 0, "%s: none gets %" PRIu32, title, numbers[i]);
-}
-
 void compare_sheets(uint64_t seed, uint64_t count) {
     static const uint32_t of_sheets[] = {0, 1, 2, 4, 5, 6, 16}, of_others[] = {1, 2, 3};
     static const uint32_t of_searches[] = {0, 7, 8, 9, 10, 11, 12, 13, 17};
@@ -321,9 +313,9 @@ void compare_sheets(uint64_t seed, uint64_t count) {
         compare_sheet(&r, &sheet, i % EVERY_RECORD_EVERY == 1);
     }
     tally_case("reach of sheets", 0);
-    check_numbers("sheets of version 1 by number", sheets_by_number[1], of_sheets, 7);
-    check_numbers("sheets of version 2 by number", sheets_by_number[2], of_sheets, 7);
-    check_numbers("sheets of another version by number", sheets_by_number[0], of_others, 3);
-    check_numbers("searches of accepted sheets by number", searches_by_number, of_searches, 9);
-    check_numbers("remarks of version 2 by length", remarks_by_length, of_remarks, 6);
+    reach_numbers("sheets of version 1 by number", sheets_by_number[1], of_sheets, 7);
+    reach_numbers("sheets of version 2 by number", sheets_by_number[2], of_sheets, 7);
+    reach_numbers("sheets of another version by number", sheets_by_number[0], of_others, 3);
+    reach_numbers("searches of accepted sheets by number", searches_by_number, of_searches, 9);
+    reach_numbers("remarks of version 2 by length", remarks_by_length, of_remarks, 6);
 }

@@ -1,7 +1,7 @@
 /* Linked in front of the library by the linker's --wrap, this gives the answers of a wrong calculator. In the
  * environment FAULT is the fault, of which 1 to 5 must be found by the check of that number in the checklist; ENTRY is
- * the one entry that has it: search, plot, line or list, and without ENTRY, or with an empty one, all have it and
- * eas_evaluate too; LETTER is the one letter of answers that have it, where that is given and not empty.
+ * the one entry that has it: search, plot, line, list, forward or back, and without ENTRY, or with an empty one, all
+ * have it and eas_evaluate too; LETTER is the one letter of answers that have it, where that is given and not empty.
  *
  *   1  the search gives 9 for every name with a percent form
  *   2  a name of digits is taken as the number of a row
@@ -12,6 +12,8 @@
  *   7  fits are not joined: each has the polynomials of its own density's band; check 3 must find it
  *   8  the ends of a joined pressure have the densities of the strip's ends, as in the listing; check 3 must find it
  *   9  no state that has a remark is found; check 1 must find it
+ *  10  a conversion loses the last state; check 1 must find it
+ *  11  a conversion to version 1 drops remarks, where 18 is due; check 1 must find it
  */
 #include <ctype.h>
 #include <math.h>
@@ -21,17 +23,22 @@
 #include "reference/answer.h"
 #include "reference/line.h"
 #include "reference/sheet.h"
+#include "tools/record.h"
 
 eas_answer __real_eas_search(const uint8_t *sheet, size_t n, const uint8_t *spelled, size_t m);
 eas_answer __real_eas_evaluate(uint32_t kind, uint64_t first, uint64_t second);
 eas_mark __real_eas_plot(const uint8_t *sheet, size_t n, const uint8_t *spelled, size_t m);
 eas_text __real_eas_line(const uint8_t *sheet, size_t n, const uint8_t *spelled, size_t m, uint8_t *out, size_t room);
 eas_text __real_eas_list(const uint8_t *sheet, size_t n, const uint8_t *names, size_t m, uint8_t *out, size_t room);
+eas_text __real_eas_forward(const uint8_t *sheet, size_t n, uint8_t *out, size_t room);
+eas_text __real_eas_back(const uint8_t *sheet, size_t n, uint8_t *out, size_t room);
 eas_answer __wrap_eas_search(const uint8_t *sheet, size_t n, const uint8_t *spelled, size_t m);
 eas_answer __wrap_eas_evaluate(uint32_t kind, uint64_t first, uint64_t second);
 eas_mark __wrap_eas_plot(const uint8_t *sheet, size_t n, const uint8_t *spelled, size_t m);
 eas_text __wrap_eas_line(const uint8_t *sheet, size_t n, const uint8_t *spelled, size_t m, uint8_t *out, size_t room);
 eas_text __wrap_eas_list(const uint8_t *sheet, size_t n, const uint8_t *names, size_t m, uint8_t *out, size_t room);
+eas_text __wrap_eas_forward(const uint8_t *sheet, size_t n, uint8_t *out, size_t room);
+eas_text __wrap_eas_back(const uint8_t *sheet, size_t n, uint8_t *out, size_t room);
 
 static const int64_t ONE = 10000000000;
 
@@ -212,4 +219,27 @@ eas_text __wrap_eas_list(const uint8_t *sheet, size_t n, const uint8_t *names, s
         m -= past;
     }
     return all;
+}
+
+/* A converted sheet without its last state. */
+static eas_text lose_last_state(uint8_t *sheet, eas_text converted) {
+    static parsed_sheet parsed;
+    sheet_parse(&parsed, sheet, converted.length);
+    if (converted.number || parsed.count == 0)
+        return converted;
+    put_number(sheet + 5, 2, parsed.count - 1);
+    return (eas_text){0, parsed.records[parsed.count - 1].start - 1};
+}
+
+eas_text __wrap_eas_forward(const uint8_t *sheet, size_t n, uint8_t *out, size_t room) {
+    eas_text converted = __real_eas_forward(sheet, n, out, room);
+    return fault() == 10 && has_fault("forward") ? lose_last_state(out, converted) : converted;
+}
+
+eas_text __wrap_eas_back(const uint8_t *sheet, size_t n, uint8_t *out, size_t room) {
+    static uint8_t bare[SHEET_MOST];
+    eas_text converted = __real_eas_back(sheet, n, out, room);
+    if (fault() == 11 && has_fault("back") && converted.number == EAS_REMARK_NOT_EMPTY)
+        return __real_eas_back(bare, put_with_remarks(bare, sheet, 0), out, room);
+    return fault() == 10 && has_fault("back") ? lose_last_state(out, converted) : converted;
 }

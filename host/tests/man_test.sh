@@ -39,6 +39,9 @@ done < "$work/reasons"
 for heading in name spelled kind first density remark remark_spelled $(sed -n 's/.*"\([a-z]*_[A-Za-z_0-9]*\)", [0-9]*};/\1/p' host/tools/kinds.c | grep -v -e temperature -e entropy); do
     expect "airstate-sheet(1) has the heading $heading" says man/airstate-sheet.1 "$heading"
 done
+for word in $(sed -n 's/^ *"\([a-z]*\) \[-o .*/\1/p' host/tools/sheet_tool.c); do
+    expect "airstate-sheet(1) has $word" says man/airstate-sheet.1 "airstate-sheet $word"
+done
 for tool in sheet_tool plot checklist; do
     for option in $(sed -n "s/.*{'.', \"\([a-z]*\)\".*/\1/p" host/tools/$tool.c) help version; do
         expect "airstate-${tool%_tool}(1) has --$option" says "man/airstate-${tool%_tool}.1" "--$option"

@@ -240,6 +240,10 @@ ends "a folder as sheet" 1 "plot: $work: Is a directory" "$plot" "$work" "$work/
 ends "a text as sheet" 1 \
     "plot: samples/sample.csv: refusal 2: not a sheet: under 7 bytes, or it does not begin with EAS" \
     "$plot" samples/sample.csv "$work/x.svg"
+printf 'EAS\0\002\0\001\001a\001' > "$work/cut.eas"
+ends "a cut sheet" 1 \
+    "plot: $work/cut.eas: record 1: refusal 4: bytes are missing from a record, or left over after the last" \
+    "$plot" "$work/cut.eas" "$work/x.svg"
 for ending in svg png pdf; do
     ends "no folder for a $ending" 1 "plot: $work/none/x.$ending: No such file or directory" \
         "$plot" samples/sample.eas "$work/none/x.$ending"

@@ -193,3 +193,12 @@ void reach_check(void) {
     tally_check(far_in_wider > 0, "no join far from a line between exponents at Y = -4,490,000");
     tally_check(single_beside_narrower > 0, "no single fit at Y = -510,000");
 }
+
+void reach_numbers(const char *title, const uint64_t *counts, const uint32_t *numbers, int count) {
+    printf("  %s:", title);
+    for (int i = 0; i < count; i++)
+        printf(" %" PRIu32 ": %" PRIu64, numbers[i], counts[numbers[i]]);
+    printf("\n");
+    for (int i = 0; i < count; i++)
+        tally_check(counts[numbers[i]] > 0, "%s: none gets %" PRIu32, title, numbers[i]);
+}

@@ -1,8 +1,9 @@
-/* Sheets, names, lines and marks, against cases worked out by hand. */
+/* Sheets and their conversion, names, lines and marks, against cases worked out by hand. */
 #include <inttypes.h>
 #include <stddef.h>
 #include <string.h>
 
+#include "reference/convert.h"
 #include "reference/line.h"
 #include "reference/name.h"
 #include "reference/sheet.h"
@@ -136,6 +137,89 @@ static void test_remarks(void) {
     tally_check(none.number == 3 && none.start == 0 && none.length == 0, "the sheet comes before the name");
 }
 
+/* Sheets with the version to convert from, and their number or their result. */
+static const struct {
+    uint64_t from;
+    const uint8_t *sheet;
+    size_t n;
+    uint32_t number;
+    const uint8_t *result;
+    size_t length;
+} conversions[] = {
+    {1, BYTES("EAS\0\1\0\0"), 0, BYTES("EAS\0\2\0\0")},
+    {2, BYTES("EAS\0\2\0\0"), 0, BYTES("EAS\0\1\0\0")},
+    {1, BYTES("EAS\0\1\0\1\1A\3" VALUES), 0, BYTES("EAS\0\2\0\1\1A\3" VALUES "\0")},
+    {1, BYTES("EAS\0\1\0\2\1A\1" VALUES "\2A\0\2" VALUES), 0, BYTES("EAS\0\2\0\2\1A\1" VALUES "\0\2A\0\2" VALUES "\0")},
+    {2, BYTES("EAS\0\2\0\2\1A\1" VALUES "\0\2A\0\2" VALUES "\0"), 0, BYTES("EAS\0\1\0\2\1A\1" VALUES "\2A\0\2" VALUES)},
+    {2, BYTES("EAS\0\2\0\1\1A\1" VALUES "\1x"), 18, BYTES("")},
+    {2, BYTES("EAS\0\2\0\2\1A\1" VALUES "\0\1B\1" VALUES "\1\0"), 18, BYTES("")},
+    {2, BYTES("EAS\0\2\0\2\1A\1" VALUES "\1x\1A\1" VALUES "\0"), 16, BYTES("")},
+    {2, BYTES("EAS\0\2\0\1\1A\1" VALUES "\1xy"), 4, BYTES("")},
+    {1, BYTES("EAS\0\2\0\0"), 3, BYTES("")},
+    {2, BYTES("EAS\0\1\0\0"), 3, BYTES("")},
+    {1, BYTES("EAS\0\2\0\1"), 3, BYTES("")},
+    {2, BYTES("EAS\0\1\0\1\0"), 3, BYTES("")},
+    {1, BYTES("EAS\0\3\0\0"), 3, BYTES("")},
+    {2, BYTES("EAS\2\0\0\0"), 3, BYTES("")},
+    {1, BYTES("EAS\0\1\0\1\0"), 5, BYTES("")},
+    {1, BYTES("EAT\0\2\0\0"), 2, BYTES("")},
+    {2, BYTES("EAS\0\1\0"), 2, BYTES("")},
+};
+
+static converted_sheet right;
+
+/* Wrong results of a conversion in exactly its room: none may be taken. */
+static void test_wrong_results(void) {
+    static uint8_t written[SHEET_MAX_BYTES];
+    const size_t length = right.length;
+    const uint32_t number = right.number;
+    const eas_text made = {number, length};
+    const eas_text others[] = {{number + 1, 0}, {number + 1, length}, {number, length + 1}, {14, 0}, {0, number != 0}};
+    memcpy(written, right.bytes, length);
+    tally_check(judge_conversion(&right, length, made, written) == NULL, "the right result");
+    for (size_t i = 0; i < LENGTH(others); i++)
+        tally_check(judge_conversion(&right, length, others[i], written) != NULL, "another number or length");
+    for (size_t i = 0; i < length; i++) {
+        written[i] ^= 1;
+        tally_check(judge_conversion(&right, length, made, written) != NULL, "another byte %zu", i);
+        written[i] ^= 1;
+    }
+    if (number != 0)
+        return;
+    tally_check(judge_conversion(&right, length - 1, made, written) != NULL, "a result without room");
+    tally_check(judge_conversion(&right, length - 1, (eas_text){14, 0}, written) == NULL, "14 without room");
+}
+
+static void test_conversions(void) {
+    for (size_t i = 0; i < LENGTH(conversions); i++) {
+        tally_case("conversion", i);
+        sheet_parse(&parsed, conversions[i].sheet, conversions[i].n);
+        sheet_convert(&right, &parsed, conversions[i].sheet, conversions[i].from);
+        tally_check(right.number == conversions[i].number && right.length == conversions[i].length &&
+                        memcmp(right.bytes, conversions[i].result, right.length) == 0,
+                    "number %" PRIu32 ", %zu bytes", right.number, right.length);
+        test_wrong_results();
+    }
+}
+
+/* 3,120 records of 20 bytes, of which the last is longer: 62,407 bytes and 65,527 in version 2, and as many more. */
+static void test_long_conversions(void) {
+    static uint8_t sheet[62500] = "EAS\0\1\x0c\x30";
+    for (unsigned i = 0; i < 3120; i++)
+        memcpy(sheet + 7 + 20 * i, (uint8_t[]){2, (uint8_t)(i >> 8), (uint8_t)i, 1}, 4);
+    for (size_t more = 8; more <= 10; more++) {
+        size_t n = 62407 + more;
+        tally_case("long conversion", more);
+        sheet[62387] = (uint8_t)(2 + more);
+        memset(sheet + 62390, 1, more + 1);
+        sheet_parse(&parsed, sheet, n);
+        sheet_convert(&right, &parsed, sheet, 1);
+        tally_check(parsed.number == 0 && right.number == (more <= 9 ? 0 : 1) &&
+                        right.length == (more <= 9 ? n + 3120 : 0),
+                    "number %" PRIu32 ", %zu bytes", right.number, right.length);
+    }
+}
+
 #define TEN "ABCDEFGHIJ"
 
 static const struct {
@@ -213,6 +297,8 @@ void test_texts(void) {
     test_sheet_lengths();
     test_finding();
     test_remarks();
+    test_conversions();
+    test_long_conversions();
     test_names();
     test_lines_and_marks();
 }

@@ -1,5 +1,5 @@
 #!/bin/sh
-# sheet_tool_test.sh BUILD: sheet_tool on the texts that labs send, right and wrong ones.
+# sheet_tool_test.sh BUILD: sheet_tool on the texts that labs send and on sheets of both versions, right and wrong ones.
 cd "$(dirname "$0")/.." || exit 1
 . tests/check.sh
 tool=$1/sheet_tool
@@ -228,8 +228,8 @@ fills() {
 }
 expect "the fullest sheet" fills
 echo 3978,1,1,1 >> "$work/text.csv"
-ends "one state more" 1 "sheet_tool: standard input: line 2980: refusal 1: the sheet is over 65,536 bytes" \
-    "$tool" pack < "$work/text.csv"
+too_long="refusal 1: the sheet is, or would become, over 65,536 bytes"
+ends "one state more" 1 "sheet_tool: standard input: line 2980: $too_long" "$tool" pack < "$work/text.csv"
 
 # With remarks every record has a byte more: 2,849 of 23 bytes, and a remark of 2.
 fills_late() {
@@ -238,7 +238,6 @@ fills_late() {
         "$tool" unpack "$work/full.eas" | "$tool" pack | cmp - "$work/full.eas"
 }
 expect "the fullest sheet with a remark, in its last row" fills_late
-too_long="refusal 1: the sheet is over 65,536 bytes"
 sed '$s/$/z/' "$work/text.csv" > "$work/longer.csv"
 ends "a byte more in its remark" 1 \
     "sheet_tool: standard input: line 2850: $too_long; this first remark makes each state a byte longer" \
@@ -271,8 +270,10 @@ values='\0\0\0\0\0\0\0\001\0\0\0\0\0\0\0\001'
 record='\001a\001'$values
 sheet "an empty file is no sheet" '' "refusal 2: not a sheet: under 7 bytes, or it does not begin with EAS"
 sheet "a text is no sheet" 'name,kind\n' "refusal 2: not a sheet: under 7 bytes, or it does not begin with EAS"
-for version in '\0\0' '\0\003' '\001\001' '\002\0'; do
-    sheet "version $version" "EAS$version\\0\\0" "refusal 3: the sheet's version is neither 1 nor 2"
+other_version="refusal 3: the sheet's version is not one that is read here"
+for version in 0 3 257 512; do
+    sheet "version $version" "EAS\\$(printf %03o $((version / 256)))\\$(printf %03o $((version % 256)))\\0\\0" \
+        "$other_version: it is $version"
 done
 cut="refusal 4: bytes are missing from a record, or left over after the last"
 sheet "a missing record" "EAS\\0\\001\\0\\002$record" "record 2: $cut"
@@ -301,12 +302,118 @@ as_version_1() {
 }
 expect "a sheet of version 2 with empty remarks alone comes back as version 1" as_version_1
 
+# Conversion. What is refused leaves an output as it was.
+converts() {
+    printf "$2" > "$work/from.eas" && printf "$3" > "$work/to.eas" && "$tool" "$1" "$work/from.eas" | cmp - "$work/to.eas"
+}
+first='EAS\0\001\0\003' second='EAS\0\002\0\003' b='\002b\001\002'"$values" c='\001c\003'"$values"
+expect "forward" converts forward "$first$record$b$c" "$second$record"'\0'"$b"'\0'"$c"'\0'
+expect "back" converts back "$second$record"'\0'"$b"'\0'"$c"'\0' "$first$record$b$c"
+expect "forward without states" converts forward 'EAS\0\001\0\0' 'EAS\0\002\0\0'
+expect "back without states" converts back 'EAS\0\002\0\0' 'EAS\0\001\0\0'
+there_and_back() {
+    "$tool" forward "$1" > "$work/two.eas" && "$tool" back "$work/two.eas" | cmp - "$1" &&
+        test "$(od -An -t u1 -j 3 -N 2 "$work/two.eas" | tr -d ' \n')" = 02
+}
+back_and_forth() {
+    "$tool" back < "$1" | "$tool" forward - | cmp - "$1"
+}
+one_text() {
+    "$tool" unpack "$1" > "$work/text.csv" && "$tool" forward "$1" | "$tool" unpack | cmp - "$work/text.csv"
+}
+for sample in $(basename -s .eas samples/*.eas | grep -v with-remarks); do
+    expect "$sample.eas goes forward and comes back" there_and_back samples/$sample.eas
+    expect "$sample.eas goes back and comes forward" back_and_forth "$work/two.eas"
+    expect "$sample.eas is the same text in both versions" one_text samples/$sample.eas
+done
+in_place() {
+    cp samples/sample.eas "$work/sheet.eas" && "$tool" forward -o "$work/sheet.eas" "$work/sheet.eas" && version 2 &&
+        "$tool" back -o "$work/sheet.eas" "$work/sheet.eas" && cmp "$work/sheet.eas" samples/sample.eas
+}
+expect "an input that is the output too" in_place
+remarks_cleared() {
+    "$tool" unpack --spelled samples/with-remarks.eas | cut -d , -f 1-4 | "$tool" pack > "$work/sheet.eas" && version 1 &&
+        there_and_back "$work/sheet.eas"
+}
+expect "with its remarks cleared, the sample is of version 1" remarks_cleared
+
+# stays WHAT VERB MESSAGE: the sheet at hand is refused with this message.
+echo kept > "$work/kept"
+stays() {
+    ends "$1" 1 "sheet_tool: $work/wrong.eas: $3" "$tool" "$2" -o "$work/kept" "$work/wrong.eas"
+    expect "$1: the output stays" test "$(cat "$work/kept")" = kept
+}
+# unconverted WHAT SHEET MESSAGE: so is this one, either way.
+unconverted() {
+    printf "$2" > "$work/wrong.eas"
+    stays "forward: $1" forward "$3"
+    stays "back: $1" back "$3"
+}
+no_sheet="refusal 2: not a sheet: under 7 bytes, or it does not begin with EAS"
+unconverted "an empty file" '' "$no_sheet"
+unconverted "a text" 'name,kind\n' "$no_sheet"
+unconverted "a third version" 'EAS\0\003\0\0' "$other_version: it is 3"
+unconverted "a missing record" "EAS\\0\\001\\0\\002$record" "record 2: $cut"
+unconverted "a missing length of a remark" "$two$record"'\0'"$c" "record 2: $cut"
+unconverted "a cut remark" "$two$record"'\0'"$c"'\003xy' "record 2: $cut"
+unconverted "bytes left over" "$one$record"'\0x' "after record 1: $cut"
+unconverted "a repeated name" "$two$record"'\0'"$record"'\0' \
+    "record 2: refusal 16: the name was seen earlier in the sheet"
+unconverted "an unknown kind" 'EAS\0\001\0\001\001b\004'"$values" "record 1: refusal 6: the kind is unknown"
+head -c 65537 /dev/zero > "$work/wrong.eas"
+stays "forward: a file over the limit" forward "$too_long"
+stays "back: a file over the limit" back "$too_long"
+cp samples/sample.eas "$work/wrong.eas"
+stays "back from version 1" back "refusal 3: the sheet is of version 1 already, and nothing needs to be done"
+cp samples/with-remarks.eas "$work/wrong.eas"
+stays "forward from version 2" forward "refusal 3: the sheet is of version 2 already, and nothing needs to be done"
+
+# told_remarks SHEET MESSAGE: the way back is refused with the first remark, and with what to do.
+remark_refused="refusal 18: a state has a remark, which version 1 of the sheet does not hold"
+told_remarks() {
+    stays "back: $1" back "$1
+sheet_tool: $work/wrong.eas: note: unpack it, clear the remarks and pack the text: that makes a sheet of version 1"
+}
+told_remarks "record 1: $remark_refused: 12 states have one, first 'shot%201412%2Freservoir'"
+printf "$second$record"'\0'"$b"'\001x'"$c"'\0' > "$work/wrong.eas"
+told_remarks "record 2: $remark_refused: 1 state has one, first 'b%01'"
+ends "a remark in standard input" 1 "sheet_tool: standard input: record 2: $remark_refused: 1 state has one, first 'b%01'
+sheet_tool: standard input: note: unpack it, clear the remarks and pack the text: that makes a sheet of version 1" \
+    "$tool" back < "$work/wrong.eas"
+
+# 3,132 states are the most of version 2: 256 with names of a byte, the others with two. longest MORE [STATES]: so many
+# states, where the last MORE have a byte more.
+longest() {
+    { echo spelled,kind,first,density; awk -v more="$1" -v states="${2:-3132}" 'BEGIN {
+        for (i = 0; i < states; i++) {
+            first = i < 256 ? "" : sprintf("%%%02X", i / 256)
+            printf "%s%%%02X%s,1,1,1\n", first, i % 256, i < states - more ? "" : "x"
+        } }'; } | "$tool" pack -o "$work/wrong.eas"
+}
+goes_forward() {
+    longest "$1" && there_and_back "$work/wrong.eas" && test "$(wc -c < "$work/two.eas")" -eq "$2" &&
+        back_and_forth "$work/two.eas"
+}
+expect "the most states of version 2" goes_forward 0 65523
+expect "65,536 bytes in version 2" goes_forward 13 65536
+would_have() {
+    stays "$1" forward "refusal 1: in version 2 the sheet would have $2 bytes, one more for each of its $3 states, and \
+65536 is the most"
+}
+longest 14
+would_have "a byte more" 65537 3132
+longest 0 3133
+would_have "a state more" 65544 3133
+
 # Files.
 no_file='No such file or directory'
 ends "a missing text" 1 "sheet_tool: $work/none.csv: $no_file" "$tool" pack "$work/none.csv"
 ends "a missing sheet" 1 "sheet_tool: $work/none.eas: $no_file" "$tool" unpack "$work/none.eas"
 ends "a folder as text" 1 "sheet_tool: $work: Is a directory" "$tool" pack "$work"
 ends "a folder as sheet" 1 "sheet_tool: $work: Is a directory" "$tool" unpack "$work"
+ends "a missing sheet to convert" 1 "sheet_tool: $work/none.eas: $no_file" "$tool" back "$work/none.eas"
+ends "a full disk for a converted sheet" 1 "sheet_tool: /dev/full: No space left on device" \
+    "$tool" forward -o /dev/full samples/sample.eas
 ends "no such folder for the output" 1 "sheet_tool: $work/none/x.eas: $no_file" \
     "$tool" unpack -o "$work/none/x.eas" samples/sample.eas
 ends "a folder as output" 1 "sheet_tool: $work: Is a directory" "$tool" unpack -o "$work" samples/sample.eas
@@ -320,12 +427,16 @@ expect "a full disk behind standard output" full_disk
 # Options.
 try="
 Try 'sheet_tool --help'."
-ends "no word" 2 "sheet_tool: pack or unpack must be said$try" "$tool"
-ends "a wrong word" 2 "sheet_tool: 'pakc' is neither pack nor unpack$try" "$tool" pakc
+ends "no word" 2 "sheet_tool: pack, unpack, forward or back must be said$try" "$tool"
+ends "a wrong word" 2 "sheet_tool: 'pakc' is none of pack, unpack, forward and back$try" "$tool" pakc
+ends "a word that is too long" 2 "sheet_tool: 'forwards' is none of pack, unpack, forward and back$try" "$tool" forwards
 ends "two files" 2 "sheet_tool: one file at a time: b is too much$try" "$tool" pack a b
 ends "an unknown option" 2 "sheet_tool: unrecognized option '--sj'$try" "$tool" unpack --sj
 ends "an option without its value" 2 "sheet_tool: option requires an argument -- 'o'$try" "$tool" unpack -o
-ends "an option of the other word" 2 "sheet_tool: --si and --spelled belong to unpack$try" "$tool" pack --si
+for word in pack forward back; do
+    ends "an option of another word, for $word" 2 "sheet_tool: --si and --spelled belong to unpack$try" "$tool" $word --si
+done
+ends "two files to convert" 2 "sheet_tool: one file at a time: b is too much$try" "$tool" forward a b
 
 # Round trips of the samples: as they are, in SI units, with names as text.
 same() {

@@ -110,20 +110,20 @@ static void distinct_name(tried_bytes *name, random_source *r, size_t index, boo
 }
 
 /* What a sheet is to have: records up to a count, the one at `damaged` with its damage. Every remark of a large sheet
- * has the same length. */
+ * has the same length, and it has `limit` bytes. In a bare one remarks are empty but for the record's at `remarked`. */
 typedef struct {
     int version, damage;
-    bool large;
-    size_t count, damaged, remark_length;
+    bool large, bare;
+    size_t limit, count, damaged, remark_length, remarked;
 } sheet_plan;
 
-/* Where no further record fits, this one takes what is left of 65,536 bytes: its remark up to 255 bytes, its name the
- * rest of them, which is 2 to 22. */
+/* Where no further record fits, this one takes what is left of the limit: its remark up to 255 bytes unless it is to be
+ * empty, its name the rest of them, which is at most 22. */
 static void fill_up(size_t *name, size_t *remark, const sheet_plan *plan, size_t left) {
     size_t other = plan->version == 1 ? 18 : 19, spare = left - other;
     if (spare >= *name + *remark + other + 2)
         return;
-    if (plan->version == 2)
+    if (plan->version == 2 && !plan->bare)
         *remark = spare - *name < REMARK_MOST ? spare - *name : REMARK_MOST;
     *name = spare - *remark;
 }
@@ -131,12 +131,12 @@ static void fill_up(size_t *name, size_t *remark, const sheet_plan *plan, size_t
 static size_t put_records(tried_sheet *s, random_source *r, const sheet_plan *plan) {
     tried_bytes name = {0}, kept = {0}, remark = {0};
     size_t written = 0;
-    for (bool cut = false; written < plan->count && s->n < SHEET_LIMIT && !cut; written++) {
+    for (bool cut = false; written < plan->count && s->n < plan->limit && !cut; written++) {
         int damage = written == plan->damaged ? plan->damage : RECORD_DAMAGES;
         size_t start = s->n, length = plan->remark_length;
         distinct_name(&name, r, written, plan->large);
         if (plan->large)
-            fill_up(&name.n, &length, plan, SHEET_LIMIT - start);
+            fill_up(&name.n, &length, plan, plan->limit - start);
         if (damage == NAME_AGAIN && written > 0)
             name = kept;
         if (written == 0 || random_below(r, 4) == 0)
@@ -147,6 +147,8 @@ static size_t put_records(tried_sheet *s, random_source *r, const sheet_plan *pl
         random_remark(&remark, r, s->bytes + start, s->n - start);
         if (plan->large)
             remark.n = length;
+        else if (plan->bare && written != plan->remarked)
+            remark.n = 0;
         put_remark(s, r, &remark, damage);
         cut = damage == REMARK_CUT;
     }
@@ -196,7 +198,7 @@ static void stretch(tried_sheet *s, random_source *r) {
 }
 
 static void plan_sheet(sheet_plan *plan, random_source *r, int version, bool large) {
-    *plan = (sheet_plan){.version = version, .damage = RECORD_DAMAGES, .large = large};
+    *plan = (sheet_plan){.version = version, .damage = RECORD_DAMAGES, .large = large, .limit = SHEET_LIMIT};
     plan->count = large ? 4000 : random_below(r, 8) == 0 ? 60 : random_below(r, 7);
     plan->damaged = large ? 1000 + random_below(r, 2001) : random_below(r, plan->count + 1);
     if (random_below(r, 3) == 0)
@@ -207,20 +209,47 @@ static void plan_sheet(sheet_plan *plan, random_source *r, int version, bool lar
     }
 }
 
+static void put_sheet(tried_sheet *out, random_source *r, const sheet_plan *plan) {
+    out->n = 0;
+    put(out, 0x454153, 3);
+    put(out, (uint64_t)plan->version, 2);
+    put(out, 0, 2);
+    size_t count = put_records(out, r, plan);
+    out->bytes[5] = (uint8_t)(count >> 8);
+    out->bytes[6] = (uint8_t)count;
+}
+
+void fullest_sheet(tried_sheet *out, random_source *r, int version, size_t n) {
+    put_sheet(out, r,
+              &(sheet_plan){.version = version,
+                            .damage = RECORD_DAMAGES,
+                            .large = true,
+                            .bare = true,
+                            .limit = n,
+                            .count = SHEET_LIMIT});
+}
+
+static void put_random_sheet(tried_sheet *out, random_source *r, const sheet_plan *plan) {
+    put_sheet(out, r, plan);
+    for (uint64_t damages = random_below(r, 6); damages > 3; damages--)
+        damage_sheet(out, r);
+    if (plan->large && random_below(r, 3) == 0)
+        stretch(out, r);
+}
+
 void random_sheet_of(tried_sheet *out, random_source *r, int version, int large) {
     sheet_plan plan;
     plan_sheet(&plan, r, version, large != 0);
-    out->n = 0;
-    put(out, 0x454153, 3);
-    put(out, (uint64_t)version, 2);
-    put(out, 0, 2);
-    size_t count = put_records(out, r, &plan);
-    out->bytes[5] = (uint8_t)(count >> 8);
-    out->bytes[6] = (uint8_t)count;
-    for (uint64_t damages = random_below(r, 6); damages > 3; damages--)
-        damage_sheet(out, r);
-    if (large && random_below(r, 3) == 0)
-        stretch(out, r);
+    put_random_sheet(out, r, &plan);
+}
+
+void random_bare_sheet(tried_sheet *out, random_source *r, int large) {
+    sheet_plan plan;
+    plan_sheet(&plan, r, 2, large != 0);
+    plan.bare = true;
+    plan.remark_length = 0;
+    plan.remarked = random_below(r, 2) ? random_below(r, plan.count + 1) : plan.count;
+    put_random_sheet(out, r, &plan);
 }
 
 void random_sheet(tried_sheet *out, random_source *r, int large) {

@@ -20,10 +20,23 @@ typedef struct {
     uint8_t bytes[SPELLING_ROOM];
 } tried_bytes;
 
+/* A sheet that is written out: its head, of which version and count are a byte each, records, and its bytes with their
+ * number. */
+#define HEAD(version, count) "EAS\0" version "\0" count
+#define RECORD(name, kind) "\1" name kind "PPPPPPPPDDDDDDDD"
+#define SHEET(bytes) (const uint8_t *)bytes, sizeof bytes - 1
+
 /* A sheet that is valid, or has one or two damages; about a third are of version 2. `large` asks for one about as long
  * as a sheet may be: of the most records, or filled by remarks of 255 bytes. */
 void random_sheet(tried_sheet *out, random_source *r, int large);
 void random_sheet_of(tried_sheet *out, random_source *r, int version, int large);
+
+/* The same of version 2 with empty remarks, at times but for one record's in a sheet that is not large. */
+void random_bare_sheet(tried_sheet *out, random_source *r, int large);
+
+/* A sheet of n bytes, 7 or enough for a record, with names of one byte as long as there are others, then of two; the
+ * last name takes the bytes that are left over. Remarks are empty. Up to 65,536 bytes it is accepted. */
+void fullest_sheet(tried_sheet *out, random_source *r, int version, size_t n);
 
 /* A sheet that differs in remarks only from one of version 2 within 65,536 bytes, and is within them too: other remarks
  * in some or all records, a remark that is cut at the end cut otherwise, the rest equal. True where one is cut so. */

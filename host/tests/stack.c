@@ -10,7 +10,7 @@
 
 #include "tools/record.h"
 
-enum { STACK = 1 << 20, MARK = 0xA7, MOST = 128 * 1024, OWN = 512, SHEETS = 8 };
+enum { STACK = 1 << 20, MARK = 0xA7, MOST = 128 * 1024, OWN = 512, SHEETS = 9 };
 
 typedef struct {
     uint8_t bytes[SHEET_MOST + 20];
@@ -77,6 +77,16 @@ static void call_list(void) {
 static void call_record_at(void) {
     sink = eas_record_at(current->bytes, current->n, 0).start;
     sink = eas_record_at(current->bytes, current->n, RECORDS_MOST).start;
+}
+
+static uint8_t converted[SHEET_MOST];
+
+static void call_forward(void) {
+    sink = eas_forward(current->bytes, current->n, converted, sizeof converted).length;
+}
+
+static void call_back(void) {
+    sink = eas_back(current->bytes, current->n, converted, sizeof converted).length;
 }
 
 /* Every record of the sheet, and a kind that is unknown. */
@@ -148,7 +158,7 @@ static void fill(sheet *s, size_t most) {
 }
 
 /* An empty sheet, a small one, the fullest, one whose last name is repeated, and one that is too long; with the most
- * records of version 2, with the longest remarks, and with the last of these cut. */
+ * records of version 2, with the longest remarks, and with the last of these cut; the fullest that goes forward. */
 static void make_sheets(void) {
     fill(&sheets[0], HEAD);
     fill(&sheets[1], 3000);
@@ -159,6 +169,7 @@ static void make_sheets(void) {
     sheets[5].n = put_with_remarks(sheets[5].bytes, sheets[2].bytes, 0);
     sheets[6].n = put_with_remarks(sheets[6].bytes, sheets[2].bytes, REMARK_MOST);
     sheets[7].n = put_with_remarks(sheets[7].bytes, sheets[2].bytes, REMARK_MOST) - 1;
+    fill(&sheets[8], sheets[5].n - record_count(sheets[5].bytes));
     for (int i = 0; i < SHEETS; i++)
         sheets[i].accepted = eas_check(sheets[i].bytes, sheets[i].n) == 0;
 }
@@ -184,7 +195,8 @@ int main(void) {
         {"eas_check", call_check},         {"eas_find", call_find},     {"eas_remark", call_remark},
         {"eas_record_at", call_record_at}, {"eas_search", call_search}, {"eas_plot", call_plot},
         {"eas_evaluate", call_evaluate},   {"eas_line", call_line},     {"eas_list", call_list},
-        {"eas_spell", call_spell},         {"eas_read", call_read},
+        {"eas_spell", call_spell},         {"eas_read", call_read},     {"eas_forward", call_forward},
+        {"eas_back", call_back},
     };
     int failures = 0;
     make_sheets();

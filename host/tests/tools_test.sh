@@ -56,7 +56,7 @@ refuses_list() {
     test "$(cat "$work/listed")" = "list ! 15"
 }
 
-# A sheet and the same one without its remarks have one listing.
+# A sheet, the same one without its remarks, and that one in its other version have one listing.
 lists_remarks_aside() {
     "$build/sheet_tool" unpack --spelled samples/with-remarks.eas > "$work/states.csv" &&
         cut -d , -f 1-4 "$work/states.csv" | "$build/sheet_tool" pack > "$work/bare.eas" || return 1
@@ -64,8 +64,11 @@ lists_remarks_aside() {
     in_folder with-remarks.eas "$@" < "$work/names" > "$work/listed"
     cp "$work/bare.eas" "$work/folder/sheet.eas"
     (cd "$work/folder" && "$@") < "$work/names" > "$work/listed-bare"
+    "$build/sheet_tool" forward -o "$work/folder/sheet.eas" "$work/bare.eas" || return 1
+    (cd "$work/folder" && "$@") < "$work/names" > "$work/listed-forward"
     cat "$work/listed"
-    test "$(grep -c ' [TSP] ' "$work/listed")" -eq 15 && cmp "$work/listed" "$work/listed-bare"
+    test "$(grep -c ' [TSP] ' "$work/listed")" -eq 15 && cmp "$work/listed" "$work/listed-bare" &&
+        cmp "$work/listed" "$work/listed-forward"
 }
 
 expect "the example prints what is stored" prints_example example.txt sample.eas nose%2fcap%201 42 hot 43 a%2
@@ -84,7 +87,7 @@ if test $# -gt 0; then
     expect "the listing prints what is stored" lists sample.eas list.txt list-output.txt "$@"
     expect "a sheet that cannot be opened counts as empty" lists none list.txt no-sheet-output.txt "$@"
     if test -x "$build/sheet_tool"; then
-        expect "a listing does not depend on remarks" lists_remarks_aside "$@"
+        expect "a listing does not depend on remarks, nor on the version" lists_remarks_aside "$@"
     else
         skip "sheet_tool was not built"
     fi

@@ -13,8 +13,8 @@ static const char help[] = "Makes the field engineer's five checks on each SHEET
                            "Every name is asked for as a user does: by search, as a plot mark, as a listing line\n"
                            "and in a run list of all names. What is shown is compared with an exact calculation\n"
                            "that shares no code with the library, and with what the same sheet shows without its\n"
-                           "remarks. A check that lacks a state in a SHEET says so and is no pass for it: the\n"
-                           "status is 0 only where every check passed, else 1.";
+                           "remarks and converted to its other version. A check that lacks a state in a SHEET says\n"
+                           "so and is no pass for it: the status is 0 only where every check passed, else 1.";
 
 static const char *const samples[] = {
     "sample", "slash-and-space", "digits-only", "edges-and-transitions", "energy-and-pressure", "with-remarks"};
@@ -54,6 +54,7 @@ static const char *const place_words[PLACES] = {
 static const char *const cause_words[] = {
     [RIGHT] = "right",
     [BY_REMARKS] = "wrong: the sheet's remarks change what is shown",
+    [BY_CONVERSION] = "right, but another where the sheet is converted to its other version",
     [NOT_FOUND] = "wrong: the sheet has this name",
     [FOUND_ABSENT] = "wrong: no state has this name",
     [ANOTHERS] = "wrong",
@@ -68,7 +69,7 @@ static const char *const cause_words[] = {
 typedef enum { PASSED, FAILED, INCOMPLETE, NO_STATE } verdict;
 
 static verdict verdict_of(int check, const tally *t) {
-    if (t->faulty || t->encoded)
+    if (t->faulty || t->encoded || t->misconverted)
         return FAILED;
     if (t->places == check_places[check])
         return PASSED;
@@ -112,7 +113,8 @@ static void print_shown(const fault *f, way w) {
         snprintf(text, sizeof text, "%.6f %s", shown_in_units(&state->record, &s),
                  kind_of(state->record.kind)->wanted->unit);
     printf("%*s%-13s %s (%s", INDENT, "", way_words[w], text, cause_words[f->causes[w]]);
-    size_t other = f->causes[w] == RIGHT ? SIZE_MAX : state_shown(f->sheet, f->name, &s);
+    bool is_own = f->causes[w] == RIGHT || f->causes[w] == BY_CONVERSION;
+    size_t other = is_own ? SIZE_MAX : state_shown(f->sheet, f->name, &s);
     if (other != SIZE_MAX) {
         const written_name *spelled = &f->sheet->states[other].spelled;
         printf(", that is %.*s in row %zu", (int)spelled->length, (const char *)spelled->bytes, other + 1);
@@ -157,6 +159,18 @@ static void print_encoded(const tally *t) {
            (const char *)s->spelled.bytes);
 }
 
+/* A sheet whose conversion is refused, or not, where that is wrong, or does not come back. */
+static void print_misconverted(const asked_sheet *sheet) {
+    const conversion_result *result = &sheet->conversion;
+    unsigned other = 3 - sheet_version(sheet->bytes);
+    if (result->number != result->due)
+        printf("%*sconverting %s to version %u: the library says \"%s\", right is \"%s\"\n", INDENT, "", sheet->path,
+               other, eas_reason(result->number), eas_reason(result->due));
+    if (!result->returns)
+        printf("%*sconverting %s to version %u and back does not return the same bytes\n", INDENT, "", sheet->path,
+               other);
+}
+
 /* ---- a check in words */
 
 static void print_missing(int check, const tally *t) {
@@ -185,6 +199,8 @@ static verdict print_check(int check, const tally *t, const char *whose) {
     print_verdict(v, t, whose);
     if (t->encoded)
         print_encoded(t);
+    if (t->misconverted)
+        print_misconverted(t->misconverted);
     if (t->faulty)
         print_fault(t);
     if (v == NO_STATE || v == INCOMPLETE)

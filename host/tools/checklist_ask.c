@@ -6,6 +6,7 @@
 
 #include "options.h"
 #include "reference/answer.h"
+#include "reference/convert.h"
 #include "same.h"
 
 enum { LIST_MOST = 65536 };
@@ -152,33 +153,59 @@ static void ask_all(asked_sheet *sheet) {
         i = ask_list(sheet, i);
 }
 
-/* The same sheet with empty remarks. */
-static asked_sheet *without_remarks(const asked_sheet *sheet) {
-    asked_sheet *bare = checked(calloc(1, sizeof *bare));
-    bare->n = put_with_remarks(bare->bytes, sheet->bytes, 0);
-    bare->count = sheet->count;
-    bare->names = checked(malloc(sheet->count * sizeof *bare->names));
-    memcpy(bare->names, sheet->names, sheet->count * sizeof *bare->names);
-    return bare;
-}
-
 static bool same_lines(const listing_line *a, const listing_line *b) {
     return a->length == b->length && !memcmp(a->bytes, b->bytes, a->length);
 }
 
-/* No answer may depend on remarks. */
-static void compare_without_remarks(asked_sheet *sheet) {
-    asked_sheet *bare = without_remarks(sheet);
-    ask_all(bare);
+/* Asks for all names in the bytes of a twin, which must show the same. */
+static void compare_with(asked_sheet *sheet, twin t, const uint8_t *bytes, size_t n) {
+    asked_sheet *other = checked(calloc(1, sizeof *other));
+    memcpy(other->bytes, bytes, n);
+    other->n = n;
+    other->count = sheet->count;
+    other->names = checked(malloc(sheet->count * sizeof *other->names));
+    memcpy(other->names, sheet->names, sheet->count * sizeof *other->names);
+    ask_all(other);
     for (size_t i = 0; i < sheet->count; i++) {
-        asked_name *own = &sheet->names[i], *other = &bare->names[i];
-        own->by_remarks[BY_SEARCH] = answers_differ(&own->answer, &other->answer) != NULL;
-        own->by_remarks[BY_PLOT] = !same_mark(own->mark, other->mark);
-        own->by_remarks[BY_LINE] = !same_lines(&own->line, &other->line);
-        own->by_remarks[BY_LIST] = !same_lines(&own->listed, &other->listed);
+        asked_name *own = &sheet->names[i], *its = &other->names[i];
+        own->differs[t][BY_SEARCH] = answers_differ(&own->answer, &its->answer) != NULL;
+        own->differs[t][BY_PLOT] = !same_mark(own->mark, its->mark);
+        own->differs[t][BY_LINE] = !same_lines(&own->line, &its->line);
+        own->differs[t][BY_LIST] = !same_lines(&own->listed, &its->listed);
     }
-    free(bare->names);
-    free(bare);
+    free(other->names);
+    free(other);
+}
+
+static eas_text convert(const uint8_t *sheet, size_t n, uint8_t out[SHEET_MOST]) {
+    return (sheet_version(sheet) == 1 ? eas_forward : eas_back)(sheet, n, out, SHEET_MOST);
+}
+
+/* No answer may depend on the version. What is converted is the sheet without its remarks. */
+static void compare_converted(asked_sheet *sheet, const uint8_t *bare, size_t n) {
+    static uint8_t other[SHEET_MOST], again[SHEET_MOST];
+    static converted_sheet right;
+    uint32_t number = convert(sheet->bytes, sheet->n, other).number;
+    sheet_convert(&right, &sheet->parsed, sheet->bytes, sheet->parsed.version);
+    sheet->conversion = (conversion_result){number, right.number, true};
+    if (right.number == EAS_SHEET_TOO_LONG)
+        return;
+    eas_text there = convert(bare, n, other), back = convert(other, there.length, again);
+    sheet->conversion.returns = !there.number && !back.number && back.length == n && !memcmp(again, bare, n);
+    if (!there.number)
+        compare_with(sheet, CONVERTED, other, there.length);
+}
+
+/* No answer may depend on remarks, nor on the version. */
+static void compare_with_twins(asked_sheet *sheet) {
+    static uint8_t bare[SHEET_MOST];
+    if (sheet_version(sheet->bytes) == 1) {
+        compare_converted(sheet, sheet->bytes, sheet->n);
+        return;
+    }
+    size_t n = put_with_remarks(bare, sheet->bytes, 0);
+    compare_with(sheet, WITHOUT_REMARKS, bare, n);
+    compare_converted(sheet, bare, n);
 }
 
 static bool is_allowed(const eas_record *record, const eas_answer *answer) {
@@ -216,8 +243,7 @@ asked_sheet *ask_sheet(const char *path) {
     sheet->states = checked(calloc(sheet->parsed.count + 1, sizeof *sheet->states));
     add_names(sheet);
     ask_all(sheet);
-    if (sheet_version(sheet->bytes) > 1)
-        compare_without_remarks(sheet);
+    compare_with_twins(sheet);
     find_truths(sheet);
     return sheet;
 }

@@ -13,6 +13,9 @@
 
 typedef enum { BY_SEARCH, BY_PLOT, BY_LINE, BY_LIST, WAYS } way;
 
+/* A sheet with the same states, in which each name is asked for a second time. */
+typedef enum { WITHOUT_REMARKS, CONVERTED, TWINS } twin;
+
 typedef enum {
     AS_WRITTEN, /* as a listing writes the name */
     LOWER_CASE, /* the same with the digits of percent forms in lower case */
@@ -39,8 +42,14 @@ typedef struct {
     eas_answer answer;
     eas_mark mark;
     listing_line line, listed;
-    bool by_remarks[WAYS]; /* another is shown where the sheet's remarks are taken away */
+    bool differs[TWINS][WAYS]; /* another is shown where the sheet's remarks are taken away; in its other version */
 } asked_name;
+
+/* What the conversion of a sheet to its other version gives as a whole. */
+typedef struct {
+    uint32_t number, due; /* its refusal and the right one */
+    bool returns;         /* converted again, the same sheet, without its remarks, has the same bytes */
+} conversion_result;
 
 typedef struct {
     const char *path;
@@ -50,6 +59,7 @@ typedef struct {
     named_state *states; /* parsed.count of them */
     size_t count, room;
     asked_name *names;
+    conversion_result conversion;
 } asked_sheet;
 
 /* Reads a sheet and asks for all its names. Null, with a message, where it cannot be read or is refused. */

@@ -148,10 +148,10 @@ static cause cause_by_value(double value, double unit, const right_state *right)
 static cause cause_of(const asked_sheet *sheet, const asked_name *name, way w) {
     const named_state *state = &sheet->states[name->state];
     const right_state *right = &state->right;
-    if (name->by_remarks[w])
+    if (name->differs[WITHOUT_REMARKS][w])
         return BY_REMARKS;
     if (is_right(name, state, w))
-        return RIGHT;
+        return name->differs[CONVERTED][w] ? BY_CONVERSION : RIGHT;
     if (name->absent)
         return FOUND_ABSENT;
     shown s = shown_by(name, w);
@@ -208,7 +208,7 @@ static unsigned places_by_value(const right_state *right) {
 /* A fault that a check names goes to that check alone, any other to all that look at the state. */
 static unsigned charged_checks(const asked_name *name, unsigned looking, cause c) {
     unsigned by_name = looking & (BIT(SIGNS) | BIT(DIGITS)), by_value = looking & ~by_name;
-    if (c == BY_REMARKS)
+    if (c == BY_REMARKS || c == BY_CONVERSION)
         return BIT(SIGNS);
     if (name->absent)
         return BIT(name->as == ROW_NUMBER ? DIGITS : SIGNS);
@@ -248,7 +248,14 @@ static void charge(const fault *f, unsigned charged, tally tallies[TALLIES]) {
             tallies[c].first = *f;
 }
 
+static bool is_misconverted(const asked_sheet *sheet) {
+    const conversion_result *result = &sheet->conversion;
+    return result->number != result->due || !result->returns;
+}
+
 void judge_sheet(const asked_sheet *sheet, tally tallies[TALLIES]) {
+    if (is_misconverted(sheet) && !tallies[SIGNS].misconverted)
+        tallies[SIGNS].misconverted = sheet;
     for (size_t i = 0; i < sheet->parsed.count; i++)
         look_at(sheet, &sheet->states[i], tallies);
     for (size_t i = 0; i < sheet->count; i++) {

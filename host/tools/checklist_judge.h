@@ -30,6 +30,7 @@ extern const unsigned check_places[TALLIES];
 typedef enum {
     RIGHT,
     BY_REMARKS,    /* it is another where the sheet's remarks are taken away */
+    BY_CONVERSION, /* it is right, but another where the sheet is converted to its other version */
     NOT_FOUND,     /* refused as a name that no state has, or missing from the run list */
     FOUND_ABSENT,  /* something is shown for a name that no state has */
     ANOTHERS,      /* another state's answer */
@@ -66,6 +67,7 @@ typedef struct {
     fault first;                   /* of `faulty` */
     const asked_sheet *encoded_in; /* the first of `encoded` */
     const asked_name *encoded_name;
+    const asked_sheet *misconverted; /* the first sheet whose conversion is wrong as a whole, else null */
 } tally;
 
 /* Adds a sheet to the tallies. */

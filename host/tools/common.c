@@ -52,9 +52,42 @@ int load_bytes(const char *path, uint8_t sheet[SHEET_MOST + 1], size_t *n) {
     return failed;
 }
 
+/* Whether the record at *at ends within the sheet; if so, *at moves past it. */
+static bool pass_record(const uint8_t *sheet, size_t n, size_t *at) {
+    size_t left = n - *at, name = left > 0 ? sheet[*at] : 0, whole = 1 + name + RECORD_REST;
+    if (name == 0 || name > NAME_MOST)
+        return false;
+    if (sheet_version(sheet) > 1)
+        whole += 1u + (left > whole ? sheet[*at + whole] : 0);
+    if (left < whole)
+        return false;
+    *at += whole;
+    return true;
+}
+
+/* Tells where the sheet is refused, by checking it cut after each record in turn. */
+static int refuse_sheet(const char *input, uint8_t *sheet, size_t n, uint32_t number) {
+    char place[40] = "", found[40] = "";
+    unsigned count = number > EAS_VERSION_UNKNOWN ? record_count(sheet) : 0;
+    size_t at = HEAD;
+    if (number > EAS_VERSION_UNKNOWN)
+        snprintf(place, sizeof place, "after record %u: ", count);
+    if (number == EAS_VERSION_UNKNOWN)
+        snprintf(found, sizeof found, ": it is %u", sheet_version(sheet));
+    for (unsigned record = 1; record <= count; record++) {
+        bool whole = pass_record(sheet, n, &at);
+        put_number(sheet + 5, 2, record);
+        if (whole && !eas_check(sheet, at))
+            continue;
+        snprintf(place, sizeof place, "record %u: ", record);
+        break;
+    }
+    return refuse("%s: %srefusal %u: %s%s", input, place, number, eas_reason(number), found);
+}
+
 int load_sheet(const char *path, uint8_t sheet[SHEET_MOST + 1], size_t *n) {
     if (load_bytes(path, sheet, n))
         return REFUSED;
     uint32_t number = eas_check(sheet, *n);
-    return number ? refuse("%s: refusal %u: %s", input_name(path), number, eas_reason(number)) : DONE;
+    return number ? refuse_sheet(input_name(path), sheet, *n, number) : DONE;
 }

@@ -27,7 +27,7 @@ const char *samples_folder(void);
 /* Reads at most SHEET_MOST + 1 bytes, enough for eas_check to judge a longer file by. 0 is success. */
 int load_bytes(const char *path, uint8_t sheet[SHEET_MOST + 1], size_t *n);
 
-/* The same, and checks that they are a sheet. */
+/* The same, and checks that they are a sheet. A refused one is told with the record at fault. */
 int load_sheet(const char *path, uint8_t sheet[SHEET_MOST + 1], size_t *n);
 
 #endif

@@ -1,6 +1,7 @@
-/* sheet_tool: a text of states to a sheet and back. */
+/* sheet_tool: a text of states to a sheet and back, and a sheet from one version to the other. */
 #include <string.h>
 
+#include "convert.h"
 #include "options.h"
 #include "pack.h"
 
@@ -15,9 +16,13 @@ static const tool_option options[] = {
 
 static const tool description = {
     "pack [-o FILE.eas] [FILE.csv]\n"
-    "unpack [-o FILE.csv] [--si] [--spelled] [FILE.eas]",
-    "Packs a CSV text of states into a sheet, or writes a sheet as text. A file of - or\n"
-    "none is standard input. The text's first row names its columns:\n"
+    "unpack [-o FILE.csv] [--si] [--spelled] [FILE.eas]\n"
+    "forward [-o FILE.eas] [FILE.eas]\n"
+    "back [-o FILE.eas] [FILE.eas]",
+    "Packs a CSV text of states into a sheet, writes a sheet as text, or converts a sheet:\n"
+    "forward writes one of version 1 in version 2 with empty remarks, back writes one of\n"
+    "version 2 without remarks in version 1, for older copies. A file of - or none is\n"
+    "standard input. The text's first row names its columns:\n"
     "  name            the name as it is, or\n"
     "  spelled         the name with %2F for / and the like\n"
     "  pressure_Pa     with density_kg_m3: temperature is wanted (kind 1)\n"
@@ -35,15 +40,18 @@ static const tool description = {
 int main(int argc, char **argv) {
     int at = read_options(&description, argc, argv);
     if (at == argc)
-        misuse("pack or unpack must be said");
+        misuse("pack, unpack, forward or back must be said");
     if (argc - at > 2)
         misuse("one file at a time: %s is too much", argv[at + 2]);
     const char *verb = argv[at], *input = at + 1 < argc ? argv[at + 1] : NULL;
+    bool forward = !strcmp(verb, "forward"), back = !strcmp(verb, "back");
     if (!strcmp(verb, "unpack"))
         return unpack(input, output, si, spelled);
-    if (strcmp(verb, "pack"))
-        misuse("'%s' is neither pack nor unpack", verb);
+    if (strcmp(verb, "pack") && !forward && !back)
+        misuse("'%s' is none of pack, unpack, forward and back", verb);
     if (si || spelled)
         misuse("--si and --spelled belong to unpack");
+    if (forward || back)
+        return convert(input, output, forward ? eas_forward : eas_back);
     return pack(input, output);
 }

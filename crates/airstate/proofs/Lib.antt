@@ -1,4 +1,5 @@
 pub mod Plot
 pub mod Remarks
+pub mod Converted
 pub mod Allowed
 pub mod Demand3

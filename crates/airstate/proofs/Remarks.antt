@@ -1,4 +1,4 @@
--- Request 5 over what C gets: by the page that two sheets share, and by their searches.
+-- Sheets with one page are alike for C; request 5 over what C gets.
 use mathlib.Core.List.{List}
 use mathlib.Core.Path.{_≡_, refl, sym, ap, _∙_}
 use Prim.Native.Nat.{ℕ, _≤_}
@@ -10,24 +10,25 @@ use Rattle.air.specs.Choices.{chosen}
 use Rattle.air.specs.Held.{Held}
 use Rattle.mark.specs.Mark.{markOf}
 use Rattle.line.specs.Line.{line}
+use Rattle.sheet.specs.Sheet.{sheetOf}
 use Rattle.sheet_search.specs.Find.{Inside}
 use Rattle.sheet_search.specs.declared.Lookup.{Lookup}
 use Rattle.sheet_search.specs.declared.Lookup.the-variants.{Hit, Miss}
-use Rattle.sheet_search.proofs.Pages.{Reply, missed, found, replyOf, replyName, name-reply}
+use Rattle.sheet_search.proofs.Pages.{pageOf, Reply, missed, found, replyOf, replyName, name-reply}
 use Rattle.sheet_search.proofs.Remarks.{remarks-page}
 use Rattle.sheet_remark.specs.Remark.{remarkOf}
 use Rattle.sheet_walk.proofs.Pages.{same-record, numbered-inside}
 use Rattle.calculator.specs.Search.{locate}
 use Rattle.calculator.proofs.Demand3.{locates}
 use Rattle.calculator.proofs.Located.{locate-inside}
-use Rattle.calculator.proofs.Remarks.{remarks-aside}
+use Rattle.calculator.proofs.Remarks.{same-answers}
 use Rattle.calculator.proofs.Replies.{same-reply}
 use Rattle.report.proofs.Alike.{same-listing}
 use Rattle.flat.specs.Flat.{flat}
 use Rattle.flat_parts.specs.declared.CRecord.{CRecord}
 use Rattle.flat_parts.specs.Flat.{flatFound, flatRemark, flatMark}
 use Rattle.flat_parts.proofs.FoundPart.{found-part}
-use Rattle.airstate.specs.Remarks.{placeless, SameRecord, FlatRemarksAside, FoundRemark}
+use Rattle.airstate.specs.Remarks.{placeless, SameRecord, SameForC, FlatRemarksAside, FoundRemark}
 
 -- a reply as C takes it, without a place
 abbrev flatReply : Reply → CRecord
@@ -48,10 +49,9 @@ same-flat s t l k v w e =
       name = found-part s l ∙ name-reply s l ∙ ap replyName e ∙ sym (found-part t k ∙ name-reply t k);
     }
 
-pub flat-remarks-aside : FlatRemarksAside
-flat-remarks-aside s t d =
-    let e = remarks-page s t d in
-    let a = remarks-aside s t d in
+pub same-for-c : (s t : List ℕ) → pageOf s (sheetOf s) ≡ pageOf t (sheetOf t) → SameForC s t
+same-for-c s t e =
+    let a = same-answers s t e in
     record {
       check = a .number;
       find = λ spelling. same-flat s t (locate s spelling) (locate t spelling) (locate-inside s spelling) (locate-inside t spelling) (same-reply s t spelling e);
@@ -61,6 +61,9 @@ flat-remarks-aside s t d =
       line = λ room spelling. ap (λ (h : Held). fitting room (line spelling h)) (a .search chosen spelling);
       list = λ room names. ap (fitting room) (same-listing chosen s t (a .search chosen) (a .number) names);
     }
+
+pub flat-remarks-aside : FlatRemarksAside
+flat-remarks-aside s t d = same-for-c s t (remarks-page s t d)
 
 pub found-remark : FoundRemark
 found-remark s rs r spelling e m k = ap (λ (f : Lookup). flatRemark (remarkOf s f)) (locates s rs r spelling e m k)

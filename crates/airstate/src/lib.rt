@@ -15,6 +15,7 @@ ghost use Rattle.sheet_remark.specs.Remark.{remarkOf};
 ghost use Rattle.sheet_walk.specs.Records.{recordOf};
 ghost use Rattle.air.specs.Choices.{chosen};
 ghost use Rattle.air.specs.State.{answerBy};
+ghost use Rattle.convert.specs.Convert.{forward, back};
 ghost use Rattle.mark.specs.Mark.{markOf};
 ghost use Rattle.calculator.specs.Search.{locate, searchBy};
 ghost use Rattle.flat.specs.Flat.{flat};
@@ -122,4 +123,22 @@ pub extern "C" fn eas_read(spelled: &[u8], out: &mut [u8]) -> CText
     ensures { λ _. ⌜ now (out .exit) ≡ written (readIn (length (now (out .entry))) (now (spelled .entry))) (now (out .entry)) ⌝ }
 {
     flat_parts::flatten_text(name_room::read(spelled, out))
+}
+
+// A sheet of version 1 in version 2, with empty remarks, in lent room. What is kept of the sheet is `FlatForward` (specs/Converted).
+#[no_mangle]
+pub extern "C" fn eas_forward(sheet: &[u8], out: &mut [u8]) -> CText
+    ensures { λ r. ⌜ r ≡ flatText (outcomeOf (forward (now (sheet .entry)) (length (now (out .entry))))) ⌝ }
+    ensures { λ _. ⌜ now (out .exit) ≡ written (forward (now (sheet .entry)) (length (now (out .entry)))) (now (out .entry)) ⌝ }
+{
+    flat_parts::flatten_text(convert::forward(sheet, out))
+}
+
+// A sheet of version 2 whose remarks are empty in version 1, in lent room. What is kept of the sheet is `FlatBack` (specs/Converted).
+#[no_mangle]
+pub extern "C" fn eas_back(sheet: &[u8], out: &mut [u8]) -> CText
+    ensures { λ r. ⌜ r ≡ flatText (outcomeOf (back (now (sheet .entry)) (length (now (out .entry))))) ⌝ }
+    ensures { λ _. ⌜ now (out .exit) ≡ written (back (now (sheet .entry)) (length (now (out .entry)))) (now (out .entry)) ⌝ }
+{
+    flat_parts::flatten_text(convert::back(sheet, out))
 }

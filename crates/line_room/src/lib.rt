@@ -28,8 +28,7 @@ pub fn append(line: Line, out: &mut [u8], at: usize) -> usize
 {
     let n = line.len;
     let bytes = line.bytes;
-    octets::put(&bytes[..n], &mut out[at..]);
-    at + n
+    octets::append(&bytes[..n], out, at)
 }
 
 // The line that refuses a whole sheet or list, in lent room.

@@ -1,7 +1,8 @@
 // Bytes: definitions and laws that names, sheets and lines share.
 ghost use mathlib.Core.Path.{_≡_};
+ghost use Prim.Native.Nat.{_+_, _≤_};
 ghost use lib.ListN.{length};
-ghost use Rattle.octets.specs.Room.{fitting, written, outcomeOf};
+ghost use Rattle.octets.specs.Room.{fitting, written, putAt, outcomeOf};
 
 // What became of a text: how many bytes it has, or the number of a refusal.
 pub enum Outcome {
@@ -28,4 +29,14 @@ pub fn put(text: &[u8], out: &mut [u8]) -> Outcome
         i += 1;
     }
     Outcome::Done(i)
+}
+
+// Copies a text to a place of a room that has space for it, and gives the place behind it.
+pub fn append(text: &[u8], out: &mut [u8], at: usize) -> usize
+    requires { ⌜ at + length (now text) ≤ length (now out) ⌝ }
+    ensures { λ r. ⌜ r ≡ at + length (now (text .entry)) ⌝ }
+    ensures { λ _. ⌜ now (out .exit) ≡ putAt (now (out .entry)) at (now (text .entry)) ⌝ }
+{
+    put(text, &mut out[at..]);
+    at + text.len()
 }

@@ -95,20 +95,24 @@ headed s e = long (ltb 65536 (length s)) refl e
     long true p h = absurd (omega arith)
     long false p h = short (ltb (length s) 7 || not (isMarked s)) refl (ltb-false 65536 (length s) p) h
 
--- the records of an accepted sheet are those that are read
-pub accepted-is : (s : List ℕ) → Accepted s → sheetOf s ≡ records (read s)
-accepted-is s a = go (headFault s) refl
-  where
-    apart : (t : Bool) → twice (names s (read s)) ≡ t → headFault s ≡ 0 → cond t 16 (fault s) ≡ 0 → sheetOf s ≡ records (read s)
-    apart true p z h = absurd (omega arith)
-    apart false p z h = sheet-verdict s ∙ rw (z, p, h)
+-- an accepted sheet: its header is not refused, nothing ends the reading of its records, and they are those that are read
+module _ (s : List ℕ) (a : Accepted s) where
+  pub accepted-head : headFault s ≡ 0
+  accepted-head = go (headFault s) refl
+    where
+      go : (k : ℕ) → headFault s ≡ k → headFault s ≡ 0
+      go zero e = e
+      go (suc k) e = let n : headFault s ≡ 0 → ⊥ = λ z. omega arith in absurd (n (sym (number-head s n) ∙ a))
 
-    go : (k : ℕ) → headFault s ≡ k → sheetOf s ≡ records (read s)
-    go zero z = apart (twice (names s (read s))) refl z (sym (number-records s z) ∙ a)
-    go (suc k) z =
-        let n : headFault s ≡ 0 → ⊥ = λ e. omega arith in
-        let m : headFault s ≡ 0 = sym (number-head s n) ∙ a in
-        absurd (n m)
+  apart : (t : Bool) → twice (names s (read s)) ≡ t → (fault s ≡ 0) × (twice (names s (read s)) ≡ false)
+  apart true p = absurd (omega (arith, sym (number-records s accepted-head) ∙ a, ap (λ (b : Bool). cond b 16 (fault s)) p))
+  apart false p = (sym (ap (λ (b : Bool). cond b 16 (fault s)) p) ∙ sym (number-records s accepted-head) ∙ a, p)
+
+  pub accepted-fault : fault s ≡ 0
+  accepted-fault = apart (twice (names s (read s))) refl .0
+
+  pub accepted-is : sheetOf s ≡ records (read s)
+  accepted-is = sheet-verdict s ∙ rw (accepted-head, apart (twice (names s (read s))) refl .1, accepted-fault)
 
 -- the number of a sheet, from where a walk over its records ends
 pub number-walked : (s : List ℕ) (n at left count : ℕ) (starts : List ℕ) → headFault s ≡ 0 → n ≡ numberAt 2 s 5 → Walked s n at left count starts

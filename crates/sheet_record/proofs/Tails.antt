@@ -46,7 +46,7 @@ layout-two s e = ap (λ (v : ℕ). orPlain (layoutOf v)) e
 
 -- version 2 by its two bytes
 module _ (s : List ℕ) (h : 5 ≤ length s) where
-  version-is : numberAt 2 s 3 ≡ getD s 3 0 * 256 + getD s 4 0
+  pub version-is : numberAt 2 s 3 ≡ getD s 3 0 * 256 + getD s 4 0
   unfolding numberAt after
   version-is =
       let z : numberAt 0 s 3 ≡ 0 = refl in

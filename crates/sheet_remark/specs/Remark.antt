@@ -6,6 +6,7 @@ use lib.ListN.{length, drop}
 use Rattle.octets.specs.Bytes.{part}
 use Rattle.sheet_record.specs.Layout.{layoutIn}
 use Rattle.sheet_record.specs.Front.{valuesEnd}
+use Rattle.sheet_record.specs.declared.Record.{Record}
 use Rattle.sheet_search.specs.declared.Lookup.{Lookup}
 use Rattle.sheet_search.specs.declared.Lookup.the-variants.{Hit, Miss}
 use Rattle.sheet_remark.specs.declared.Part.{Part}
@@ -19,10 +20,14 @@ remarkAt end none = record { start = end; len = 0 }
 remarkAt end (some zero) = record { start = end; len = 0 }
 remarkAt end (some (suc n)) = record { start = end + 1; len = n }
 
+-- the remark of a record
+abbrev pub remarkIn : List ℕ → Record → Part
+remarkIn s r = remarkAt (valuesEnd r) (layoutIn s .tail (drop (valuesEnd r) s))
+
 -- the remark of what a search finds, or the search's refusal
 abbrev pub remarkOf : List ℕ → Lookup → Remark
 remarkOf s (Miss n) = Refused n
-remarkOf s (Hit r) = At (remarkAt (valuesEnd r) (layoutIn s .tail (drop (valuesEnd r) s)))
+remarkOf s (Hit r) = At (remarkIn s r)
 
 -- its bytes; none where the search refuses
 abbrev pub remarkBytes : List ℕ → Remark → List ℕ

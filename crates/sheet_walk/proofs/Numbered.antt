@@ -1,5 +1,4 @@
 -- The records of an accepted sheet by the places that its index keeps.
-use mathlib.Core.Bool.{Bool, true, false, cond}
 use mathlib.Core.List.{List, [], _∷_}
 use mathlib.Core.Path.{_≡_, refl, sym, ap, _∙_}
 use Prim.Native.Nat.{ℕ, zero, suc, _+_, _≤_, _<_}
@@ -12,11 +11,10 @@ use Rattle.sheet_record.specs.declared.Record.{Record}
 use Rattle.sheet_record.proofs.Places.{View, refuses, reads, view}
 use Rattle.sheet.specs.Index.{Indexed}
 use Rattle.sheet.specs.Sheet.{Sheet, refused, records, sheetOf, numberOf, Accepted}
-use Rattle.sheet_head.specs.Head.{headFault}
 use Rattle.sheet.specs.Structure.{placesFrom, faultFrom}
-use Rattle.sheet.proofs.Accept.{read, fault, accepted-is, number-head, number-records, headed}
+use Rattle.sheet.proofs.Accept.{read, accepted-head, accepted-fault, accepted-is, headed}
 use Rattle.sheet.proofs.Kept.{counted, place-at, kept-at}
-use Rattle.sheet.proofs.Walk.{recordsFrom, twice, names}
+use Rattle.sheet.proofs.Walk.{recordsFrom}
 use Rattle.sheet_search.specs.declared.Lookup.{Lookup}
 use Rattle.sheet_search.specs.declared.Lookup.the-variants.{Hit, Miss}
 use Rattle.sheet_walk.specs.Records.{recordIn, recordBy, recordOf}
@@ -70,23 +68,9 @@ all-kept y s (suc n) at e = go (all-kept y s n) (frontOf y (drop at s)) (view y 
     go ih (front f) v h = ap suc (ih (past at f) h)
 
 module _ (s : List ℕ) (a : Accepted s) where
-  head : headFault s ≡ 0
-  head = go (headFault s) refl
-    where
-      go : (k : ℕ) → headFault s ≡ k → headFault s ≡ 0
-      go zero e = e
-      go (suc k) e = let n : headFault s ≡ 0 → ⊥ = λ z. omega arith in absurd (n (sym (number-head s n) ∙ a))
-
-  whole : fault s ≡ 0
-  whole = go (twice (names s (read s))) (sym (number-records s head) ∙ a)
-    where
-      go : (b : Bool) → _≡_ {A = ℕ} (cond b 16 (fault s)) 0 → fault s ≡ 0
-      go true h = absurd (omega arith)
-      go false h = h
-
   -- the count can be read
   pub counts : 7 ≤ length s
-  counts = headed s head .least
+  counts = headed s (accepted-head s a) .least
 
   by-number : (i : ℕ) → recordOf s i ≡ recordIn (read s) i
   by-number i = ap (λ (t : Sheet). recordBy t i) (accepted-is s a)
@@ -105,7 +89,7 @@ stands s starts heads next x i h =
     let n : ℕ = numberAt 2 s 5 in
     let most : x .count ≤ length starts = omega (arith, x .whole, x .table .most) in
     let c : length (placesFrom (layoutIn s) s n 7) ≡ x .count = counted s starts n (x .count) most (x .places) in
-    let l : length (placesFrom (layoutIn s) s n 7) ≡ n = all-kept (layoutIn s) s n 7 (whole s (x .accepted)) in
+    let l : length (placesFrom (layoutIn s) s n 7) ≡ n = all-kept (layoutIn s) s n 7 (accepted-fault s (x .accepted)) in
     let k : i < x .count = omega arith in
     record {
       low = omega (arith, x .table .most);

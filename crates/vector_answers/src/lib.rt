@@ -5,6 +5,7 @@ use air::Ends;
 use air::Logs;
 use fit::Edge;
 use libc::STDOUT_FILENO;
+use octets::Outcome;
 
 pub fn say(text: &[u8]) {
     io::write_all(STDOUT_FILENO, text);
@@ -100,11 +101,48 @@ pub fn answer(answer: Answer) {
     }
 }
 
-// The bytes of a name in decimal.
+// What became of a text.
+pub fn outcome(outcome: Outcome) {
+    match outcome {
+        Outcome::Refused(k) => field(b" refused", k as u64),
+        Outcome::Done(n) => field(b"", n as u64),
+    }
+}
+
+// Bytes in decimal.
 pub fn values(bytes: &[u8]) {
     let mut i = 0;
     while i < bytes.len() {
         field(b"", octets::wide(bytes[i]));
         i += 1;
+    }
+}
+
+// The largest prime of 32 bits.
+const PRIME: u64 = 4294967291;
+
+// A number with a byte more, modulo the prime.
+fn with_byte(rest: u64, byte: u8) -> u64 {
+    (rest % PRIME * 256 + byte as u64) % PRIME
+}
+
+// Bytes as one number, high byte first, modulo the prime: each byte counts, and its place.
+fn remainder(bytes: &[u8]) -> u64 {
+    let mut rest = 0;
+    let mut i = 0;
+    while i < bytes.len() {
+        rest = with_byte(rest, bytes[i]);
+        i += 1;
+    }
+    rest
+}
+
+// A whole room: the bytes of a short one, the remainder of a long one.
+pub fn whole(room: &[u8]) {
+    if room.len() <= 100 {
+        say(b", room");
+        values(room);
+    } else {
+        field(b", remainder", remainder(room));
     }
 }

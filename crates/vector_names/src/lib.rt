@@ -2,6 +2,7 @@
 use octets::Outcome;
 use vector_answers::between;
 use vector_answers::field;
+use vector_answers::outcome;
 use vector_answers::say;
 use vector_answers::start;
 use vector_answers::values;
@@ -56,10 +57,7 @@ pub fn read(text: &[u8], from: usize) -> usize
 
 // A name written into lent room.
 fn writes(name: &[u8], room: &mut [u8]) {
-    match name_writer::spell(name, room) {
-        Outcome::Refused(k) => field(b" refused", k as u64),
-        Outcome::Done(n) => field(b"", n as u64),
-    }
+    outcome(name_writer::spell(name, room));
     between(room);
 }
 

@@ -100,9 +100,15 @@ pub fn next_word(text: &[u8], from: usize, stop: u8, room: &mut [u8]) -> Word
     word
 }
 
-// Room for all cases, and for more bytes than a sheet may have.
+// Room for all cases, and for more bytes than a sheet may have, with a byte at every place.
+pub fn room_of(byte: u8) -> [u8; 262144]
+    ensures { λ r. ⌜ 262144 ≡ length r ⌝ }
+{
+    [byte; 262144]
+}
+
 pub fn room() -> [u8; 262144]
     ensures { λ r. ⌜ 262144 ≡ length r ⌝ }
 {
-    [0; 262144]
+    room_of(0)
 }

@@ -8,20 +8,26 @@
 //   write ROOM NAME LABEL       how many bytes were written, and between < and > the whole room
 //   check SHEET LABEL           the refusal's number or 0
 //   find SHEET SPELLING LABEL   the record, its remark's place, and between < and > the part of the sheet that holds the name
+//   forward ROOM SHEET LABEL    how many bytes were written, and the whole room: ROOM bytes, at most 262144, each a dot before
+//   back ROOM SHEET LABEL       the same of the way back
 //
 // In a word \x and two hexadecimal digits stand for a byte. A sheet is its bytes, or @ and the name of a file that has them.
 use libc::STDIN_FILENO;
 use libc::STDOUT_FILENO;
+use octets::Outcome;
 use sheet_remark::Remark;
 use sheet_search::Lookup;
 use vector_answers::answer;
 use vector_answers::between;
 use vector_answers::field;
+use vector_answers::outcome;
 use vector_answers::say;
+use vector_answers::whole;
 use vector_names::label;
 use vector_words::Word;
 use vector_words::next_word;
 use vector_words::room;
+use vector_words::room_of;
 ghost use Prim.Native.Nat.{_<_, _≤_};
 ghost use lib.ListN.{length};
 
@@ -119,7 +125,35 @@ fn find(text: &[u8], from: usize) -> usize
     end
 }
 
-// Runs the case at a place, which its first letter tells, and gives the place of the next one.
+// A sheet in the other version, in lent room.
+fn other_version(s: &[u8], out: &mut [u8], back: bool) -> Outcome {
+    if back {
+        return convert::back(s, out);
+    }
+    convert::forward(s, out)
+}
+
+// What becomes of a sheet, and the whole room.
+fn converts(s: &[u8], out: &mut [u8], back: bool) {
+    outcome(other_version(s, out, back));
+    whole(out);
+}
+
+fn convert(text: &[u8], from: usize, back: bool) -> usize
+    ensures { λ r. ⌜ from ≤ r ⌝ }
+{
+    let mut out = room_of(b'.');
+    let mut room = room();
+    let lent = next_word(text, from, b' ', &mut room);
+    let sheet = next_sheet(text, lent.end, &mut room);
+    let end = label(text, sheet.end);
+    let n = (lent.number % 262145) as usize;
+    let len = sheet.len;
+    converts(&room[0..len], &mut out[0..n], back);
+    end
+}
+
+// Runs the case at a place, which its first letter tells, or of f the first two, and gives the place of the next one.
 fn case(text: &[u8], at: usize) -> usize
     requires { ⌜ at < length (now text) ⌝ }
     ensures { λ r. ⌜ at < r ⌝ }
@@ -133,7 +167,14 @@ fn case(text: &[u8], at: usize) -> usize
         b'r' => vector_names::read(text, what.end),
         b'w' => vector_names::write(text, what.end),
         b'c' => check(text, what.end),
-        b'f' => find(text, what.end),
+        b'f' => {
+            if room[0] == b'o' {
+                convert(text, what.end, false)
+            } else {
+                find(text, what.end)
+            }
+        }
+        b'b' => convert(text, what.end, true),
         _ => label(text, what.end),
     }
 }

@@ -1,8 +1,10 @@
--- `line_room::append` meets its contract. Assumes nothing.
-use mathlib.Core.Path.{refl, sym}
-use lib.ListN.{take}
+-- `line_room::append` appends the bytes that the line has.
+use mathlib.Core.List.{List, _++_}
+use mathlib.Core.Path.{_≡_, sym, ap, _∙_}
+use Prim.Native.Nat.{ℕ, _+_}
+use native.Mathlib.Omega.{arith}
+use lib.ListN.{length, take, drop}
 use lib.Seq.{length-take-le}
-use Rattle.line_room.proofs.Room.{appended}
 use borrow.Author.Needs.{needs}
 use Rattle.line_room.proofs.append.Statement.{statement}
 use Rattle.line_room.proofs.append.Tie as tie
@@ -10,43 +12,26 @@ use Rattle.line_room.proofs.append.Tie as tie
 array-share-prefix-bytes : tie.Need-array-share-prefix-bytes
 array-share-prefix-bytes c = search needs
 
-slice-aggregate-put : tie.Need-slice-aggregate-put
-slice-aggregate-put c = sym (length-take-le _ _ (c .before .before .before .pre .0))
+slice-aggregate-append : tie.Need-slice-aggregate-append
+slice-aggregate-append c = sym (length-take-le _ _ (c .before .before .before .pre .0))
 
-sub-put : tie.Need-sub-put
-sub-put c = search needs
-
-part-put-start : tie.Need-part-put-start
-part-put-start c = search needs
-
-part-put-end : tie.Need-part-put-end
-part-put-end c = search needs
-
-put-requires : tie.Need-put-requires
-put-requires c κs = search needs
-
-add-result : tie.Need-add-result
-add-result c = search needs
+append-requires : tie.Need-append-requires
+append-requires c κs =
+    let b = c .before .before .before .before in
+    omega (arith, b .pre .1, length-take-le (b .args .line .len) (b .args .line .bytes) (b .pre .0))
 
 same-length : tie.Need-same-length
 same-length c = search needs
 
 returns : tie.Need-returns
 returns c =
-    let s = c .before .before .before .before .before .before .before in
-    let l = s .args .line in
-    (refl, appended (s .args .out .now) (take (l .len) (l .bytes)) _ (s .args .at) (l .len) (s .pre .1) (length-take-le _ _ (s .pre .0)) (c .before .before .put .ensures .1))
+    let b = c .before .before .before .before .before .before .before in
+    let t : List ℕ = take (b .args .line .len) (b .args .line .bytes) in
+    let n : length t ≡ b .args .line .len = length-take-le (b .args .line .len) (b .args .line .bytes) (b .pre .0) in
+    let a = c .before .before .append in (
+      a .ensures .0 ∙ ap (λ (k : ℕ). b .args .at + k) n,
+      a .ensures .1 ∙ ap (λ (k : ℕ). take (b .args .at) (b .args .out .now) ++ (t ++ drop (b .args .at + k) (b .args .out .now))) n,
+    )
 
 pub append-spec : {M : Type 1} → statement M
-append-spec =
-    tie.close
-    (tie.spec
-    array-share-prefix-bytes
-    slice-aggregate-put
-    sub-put
-    part-put-start
-    part-put-end
-    put-requires
-    add-result
-    same-length
-    returns)
+append-spec = tie.close (tie.spec array-share-prefix-bytes slice-aggregate-append append-requires same-length returns)

@@ -1,0 +1,4 @@
+pub mod Convert
+pub mod Laws
+pub mod ForwardAnswer
+pub mod BackAnswer
