@@ -2,9 +2,9 @@
  *
  * A sheet is the bytes of a file as docs/FORMAT.md has it: named states, each with a kind and two values and, in
  * version 2, a remark of up to 255 bytes, which no answer depends on: two sheets within 65,536 bytes that differ only
- * in remarks get equal numbers and equal answers from every call but eas_remark, the places of their names aside. A
- * spelled name is a name by RFC 3986: letters, digits and - . _ ~ stand for themselves, any other byte is % and two
- * hexadecimal digits. A name itself is 1 to 40 bytes of any value.
+ * in remarks get equal numbers and equal answers from every call but eas_remark and eas_back, the places of their names
+ * aside. A spelled name is a name by RFC 3986: letters, digits and - . _ ~ stand for themselves, any other byte is %
+ * and two hexadecimal digits. A name itself is 1 to 40 bytes of any value.
  *
  * kind  first value                    second value                   answer
  *   1   pressure in 10^-6 Pa,          density in 10^-11 kg/m3,       letter 'T': temperature in 10^-6 K

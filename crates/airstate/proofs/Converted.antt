@@ -1,5 +1,5 @@
 -- Request 6 over what C gets: a converted sheet has the page of the sheet.
-use mathlib.Core.List.{List, _++_}
+use mathlib.Core.List.{List}
 use mathlib.Core.Path.{_≡_, refl, sym, ap, _∙_, subst}
 use Prim.Native.Nat.{ℕ, _≤_}
 use native.Mathlib.Omega.{arith}
@@ -12,9 +12,9 @@ use Rattle.sheet.specs.Sheet.{records, sheetOf}
 use Rattle.sheet_search.specs.declared.Lookup.{Lookup}
 use Rattle.sheet_search.specs.declared.Lookup.the-variants.{Hit, Miss}
 use Rattle.sheet_search.specs.Find.{findIn}
-use Rattle.sheet_search.proofs.Pages.{pageOf, Reply, missed, found, replyOf}
-use Rattle.sheet_search.proofs.Searching.{Finding, hit, miss, finding}
-use Rattle.sheet_remark.specs.Remark.{remarkIn, remarkOf}
+use Rattle.sheet_search.proofs.Pages.{replyOf}
+use Rattle.sheet_search.proofs.Searching.{Finding, hit, finding}
+use Rattle.sheet_remark.specs.Remark.{remarkOf}
 use Rattle.convert_records.specs.Records.{bare, recordsOf}
 use Rattle.convert.specs.Convert.{forward, back}
 use Rattle.convert.specs.BackAnswer.{NoRemark}
@@ -25,12 +25,12 @@ use Rattle.convert.specs.BackAnswer.{BackAnswer}
 use Rattle.convert.proofs.Paired.{Version, one, two}
 use Rattle.convert.proofs.Laws.{Turned, turned-back, turned-page, turned-read, forward-turned, back-turned, forward-then-back, back-then-forward}
 use Rattle.convert.proofs.Exactly.{none-remarked, forward-exactly, back-exactly}
-use Rattle.calculator.specs.Search.{locateName, locateIn, locate}
+use Rattle.calculator.specs.Search.{locateName, locate}
 use Rattle.calculator.proofs.Remarks.{same-answers}
 use Rattle.calculator.proofs.Replies.{same-reply}
 use Rattle.flat_parts.specs.declared.CText.{CText}
 use Rattle.flat_parts.specs.Flat.{flatRemark, flatText}
-use Rattle.airstate.specs.Converted.{BothEmpty, Kept, KeptBy, FlatForward, FlatBack}
+use Rattle.airstate.specs.Converted.{Kept, KeptBy, FlatForward, FlatBack}
 use Rattle.airstate.proofs.Remarks.{same-for-c}
 
 -- what a search finds in a sheet without a remark has none

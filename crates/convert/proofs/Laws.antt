@@ -2,22 +2,20 @@
 use mathlib.Core.Bool.{Bool, true, false, cond}
 use mathlib.Core.List.{List, [], _∷_}
 use mathlib.Core.Path.{_≡_, refl, sym, ap, _∙_, subst}
-use Prim.Native.Nat.{ℕ, _+_, _≤_}
+use Prim.Native.Nat.{ℕ, _≤_}
 use native.Mathlib.Omega.{arith}
 use borrow.Author.Tests.{ltb-false}
 use lib.Dec.{ltb, leb}
 use lib.ListN.{length}
-use Rattle.octets.specs.Bytes.{numberAt}
 use Rattle.octets.specs.Room.{refused, text, fitting}
 use Rattle.octets.proofs.Told.{fits}
-use Rattle.sheet_record.specs.Front.{nameIn}
 use Rattle.sheet_record.specs.declared.Record.{Record}
 use Rattle.sheet.specs.Sheet
 use Rattle.sheet.specs.Sheet.{Sheet, records, sheetOf, numberOf}
 use Rattle.sheet.proofs.Entries.{Entry, saidBy, said}
 use Rattle.sheet_version.specs.Version.{sheetIn}
 use Rattle.sheet_version.proofs.Version.{in-same, in-version}
-use Rattle.sheet_search.proofs.Pages.{Page, with, pageOf}
+use Rattle.sheet_search.proofs.Pages.{with, pageOf}
 use Rattle.convert_records.specs.Records.{sheetAs, bare, recordsOf}
 use Rattle.convert.specs.Convert.{forwardBy, forward, backBy, back}
 use Rattle.convert.specs.Laws.{ForwardThenBack, BackThenForward, SameRecords, none, more, Converted, ForwardConverts, BackConverts}

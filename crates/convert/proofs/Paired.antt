@@ -1,27 +1,24 @@
 -- Records of one version beside the same ones in another, with empty remarks in both.
 use mathlib.Core.Bool.{Bool, true, false, cond, _&&_}
-use mathlib.Core.List.{List, [], _∷_, _++_, append-assoc}
-use mathlib.Core.Option.{Option, none, some}
-use mathlib.Core.Path.{_≡_, refl, sym, ap, ap₂, _∙_, subst}
-use Prim.Native.Nat.{ℕ, zero, suc, _+_, _-_, _≤_, _<_}
-use native.Mathlib.Numerals.{add-one}
+use mathlib.Core.List.{List, [], _∷_, _++_}
+use mathlib.Core.Option.{none, some}
+use mathlib.Core.Path.{_≡_, refl, sym, ap, ap₂, _∙_}
+use Prim.Native.Nat.{ℕ, zero, suc, _+_, _-_, _≤_}
 use native.Mathlib.Omega.{arith}
 use borrow.Author.Tests.{eqb-true, eq-eqb}
 use lib.Dec.{eqb, leb}
 use lib.ListN.{length, getD, take, drop, length-append, length-drop, take-append-drop}
-use lib.Seq.{drop-cons, drop-drop, take-at, drop-at, drop-append-seam, getD-drop, length-take-le}
+use lib.Seq.{drop-drop, take-at, drop-at, drop-append-seam, getD-drop, length-take-le}
 use Rattle.octets.specs.Bytes.{part}
 use Rattle.octets.proofs.Stores.{dropped}
-use Rattle.sheet_record.specs.Layout.{Layout, layoutIn, layoutOf, orPlain, plainLayout, remarkTail}
-use Rattle.sheet_record.specs.Front.{Fields, recordAt, past, valuesEnd}
+use Rattle.sheet_record.specs.Layout.{Layout, layoutIn, layoutOf, orPlain}
+use Rattle.sheet_record.specs.Front.{recordAt, past}
 use Rattle.sheet_record.specs.declared.Record.{Record}
-use Rattle.sheet_record.proofs.Places.{Sound}
 use Rattle.sheet_record.proofs.Tails.{whole-remark}
 use Rattle.sheet.specs.Structure.{faultFrom}
 use Rattle.sheet.proofs.Walk.{recordsFrom}
 use Rattle.sheet.proofs.Entries.{Entries, entriesFrom}
-use Rattle.sheet.proofs.Heads.{inFront, behindTail, entries-head}
-use Rattle.sheet_remark.specs.Remark.{remarkAt, remarkIn}
+use Rattle.sheet.proofs.Heads.{inFront, entries-past}
 use Rattle.convert_records.specs.Records.{emptyRemark, recordBytes, recordsAs, bare}
 use Rattle.convert_records.proofs.Next.{Next, next, bytes-are}
 use Rattle.convert_records.proofs.Turns.{empty-most, remark-length}
@@ -62,21 +59,14 @@ empty-tail : {v : ℕ} → Version v → (u : List ℕ) → layout v .tail (empt
 empty-tail one u = refl
 empty-tail two u = whole-remark [] u
 
--- a record with an empty remark says what it says, and then what is behind it
-passed : {v : ℕ} → Version v → (m n : ℕ) (body u : List ℕ) → length body ≡ n + 17
-    → entriesFrom (layout v) (suc m) (n ∷ (body ++ (emptyRemark v ++ u))) ≡ inFront n body (some (entriesFrom (layout v) m u))
-passed {v} k m n body u l =
-    let rest : List ℕ = emptyRemark v ++ u in
-    entries-head (layout v) n body rest l m
-    ∙ ap (λ (o : Option ℕ). inFront n body (behindTail (layout v) m rest o)) (empty-tail k u)
-    ∙ ap (λ (x : List ℕ). inFront n body (some (entriesFrom (layout v) m x))) (drop-append-seam (emptyRemark v) u)
-
 -- both say the same
 pub pair-entries : {v w : ℕ} → Version v → Version w → {m : ℕ} {u x : List ℕ} → Paired v w m u x → entriesFrom (layout v) m u ≡ entriesFrom (layout w) m x
 unfolding entriesFrom
 pair-entries a b done = refl
-pair-entries a b (more {m} {u} {x} n body l p) =
-    passed a m n body u l ∙ ap (λ (es : Entries). inFront n body (some es)) (pair-entries a b p) ∙ sym (passed b m n body x l)
+pair-entries {v} {w} a b (more {m} {u} {x} n body l p) =
+    entries-past (layout v) m n body (emptyRemark v) u l (empty-tail a u)
+    ∙ ap (λ (es : Entries). inFront n body (some es)) (pair-entries a b p)
+    ∙ sym (entries-past (layout w) m n body (emptyRemark w) x l (empty-tail b x))
 
 -- what follows a second value where the remark is empty
 empty-rest : {v : ℕ} → Version v → (rest : List ℕ) (t : ℕ) → layout v .tail rest ≡ some t → t - 1 ≡ 0 → rest ≡ emptyRemark v ++ drop t rest

@@ -2,28 +2,25 @@
 use mathlib.Core.Bool.{Bool, true, false, cond, not, _&&_, _||_}
 use mathlib.Core.List.{List, [], _∷_, _++_}
 use mathlib.Core.Path.{_≡_, refl, sym, ap, ap₂, _∙_, subst}
-use Prim.Native.Nat.{ℕ, zero, suc, _+_, _*_, _≤_, _<_}
+use Prim.Native.Nat.{ℕ, suc, _+_, _*_, _≤_, _<_}
 use native.Mathlib.Omega.{arith}
 use borrow.Author.Tests.{eqb-true}
 use lib.Dec.{eqb, ltb}
-use lib.ListN.{length, getD, drop, length-append}
+use lib.ListN.{length, getD, drop}
 use lib.Seq.{drop-cons}
 use Rattle.octets.specs.Bytes.{numberAt, after}
 use Rattle.sheet_record.specs.Layout.{layoutIn, layoutOf, orPlain}
-use Rattle.sheet_record.specs.declared.Record.{Record}
 use Rattle.sheet_record.proofs.Tails.{version-is}
 use Rattle.sheet_head.specs.Head.{isMarked, versionFault, headFault}
 use Rattle.sheet_head.proofs.Head.{mark-bytes}
 use Rattle.sheet.specs.Sheet.{sheetOf, numberOf, Accepted}
-use Rattle.sheet.specs.Structure.{faultFrom}
-use Rattle.sheet.proofs.Walk.{recordsFrom}
 use Rattle.sheet.proofs.Accept.{headed, accepted-head}
-use Rattle.sheet.proofs.Entries.{Entries, entriesFrom}
+use Rattle.sheet.proofs.Entries.{entriesFrom}
 use Rattle.sheet_version.specs.Version.{sheetIn}
 use Rattle.sheet_version.proofs.Version.{in-same, in-version}
 use Rattle.sheet_search.proofs.Pages.{pageOf, pageBy, page-behind, pageNumber, number-page}
 use Rattle.convert_records.specs.Records.{recordsAs, headerAs, sheetAs, bare, recordsOf}
-use Rattle.convert_records.proofs.Turns.{Reading, reading, count-bytes}
+use Rattle.convert_records.proofs.Turns.{reading, count-bytes}
 use Rattle.convert.proofs.Paired.{Version, one, two, layout, Paired, and-true, pair, pair-entries, Returned, returned}
 
 -- the seven bytes of a header, and the count that its last two write

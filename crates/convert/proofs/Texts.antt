@@ -19,7 +19,7 @@ use Rattle.sheet_version.specs.Version.{sheetIn}
 use Rattle.sheet_version.proofs.Version.{in-same, in-version}
 use Rattle.sheet_remark.specs.Remark.{remarkAt}
 use Rattle.convert_records.specs.Records.{sheetAs, bare, recordsOf}
-use Rattle.convert_records.proofs.Turns.{Reading, reading}
+use Rattle.convert_records.proofs.Turns.{reading}
 use Rattle.convert.specs.Convert.{forwardBy, forward, backBy, back}
 use Rattle.convert.proofs.Paired.{one, two, flip, pair-length, pair-many, counted}
 use Rattle.convert.proofs.Sheets.{sheets-paired, from-length, to-length, count-is}

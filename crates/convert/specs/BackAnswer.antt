@@ -28,6 +28,10 @@ pub data BackAnswer (s : List ℕ) (room : ℕ) : Text → Type 0 where
       → length t + length rs ≡ length s
       → BackAnswer s room (text t)
 
--- no two of these conditions hold at once, so that each answer comes where its own does, and nowhere else
+-- an answer comes with its condition
 abbrev pub BackExactly : Type 0
 BackExactly = (s : List ℕ) (room : ℕ) → BackAnswer s room (back s room)
+
+-- and a refusal wherever its condition holds
+abbrev pub BackRefuses : Type 0
+BackRefuses = (s : List ℕ) (room k : ℕ) → BackAnswer s room (refused k) → back s room ≡ refused k

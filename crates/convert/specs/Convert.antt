@@ -4,7 +4,7 @@ use mathlib.Core.List.{List}
 use Prim.Native.Nat.{ℕ}
 use lib.Dec.{ltb}
 use lib.ListN.{length}
-use Rattle.octets.specs.Room.{Text, refused, text, fitting}
+use Rattle.octets.specs.Room.{Text, refused, fitting}
 use Rattle.sheet.specs.Sheet
 use Rattle.sheet.specs.Sheet.{Sheet, records}
 use Rattle.sheet_version.specs.Version.{sheetIn}

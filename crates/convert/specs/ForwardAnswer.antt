@@ -22,6 +22,10 @@ pub data ForwardAnswer (s : List ℕ) (room : ℕ) : Text → Type 0 where
       → length t ≡ length s + length rs
       → ForwardAnswer s room (text t)
 
--- no two of these conditions hold at once, so that each answer comes where its own does, and nowhere else
+-- an answer comes with its condition
 abbrev pub ForwardExactly : Type 0
 ForwardExactly = (s : List ℕ) (room : ℕ) → ForwardAnswer s room (forward s room)
+
+-- and a refusal wherever its condition holds
+abbrev pub ForwardRefuses : Type 0
+ForwardRefuses = (s : List ℕ) (room k : ℕ) → ForwardAnswer s room (refused k) → forward s room ≡ refused k

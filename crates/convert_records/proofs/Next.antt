@@ -1,7 +1,7 @@
 -- The records of an accepted sheet from a place on: the next one, and those behind it. For any layout.
 use mathlib.Core.Bool.{true}
-use mathlib.Core.List.{List, _∷_, _++_}
-use mathlib.Core.Path.{_≡_, refl, sym, ap, ap₂, _∙_}
+use mathlib.Core.List.{List, _∷_}
+use mathlib.Core.Path.{_≡_, refl, sym, ap, _∙_}
 use Prim.Native.Nat.{ℕ, zero, suc, _+_, _-_, _≤_, _<_}
 use native.Mathlib.Numerals.{add-one}
 use native.Mathlib.Omega.{arith}
@@ -10,7 +10,6 @@ use lib.Seq.{drop-cons}
 use Rattle.octets.specs.Bytes.{part}
 use Rattle.sheet_record.specs.Layout.{Layout}
 use Rattle.sheet_record.specs.Front.{Fields, Front, bad, front, frontOf, recordAt, past, behind, standsAt}
-use Rattle.sheet_record.specs.declared.Record.{Record}
 use Rattle.sheet_record.proofs.Places.{Sound, View, refuses, reads, view}
 use Rattle.sheet.specs.Structure.{faultFrom}
 use Rattle.sheet.proofs.Walk.{recordsFrom}

@@ -2,7 +2,7 @@
 use mathlib.Core.Bool.{Bool, true, false, cond, _&&_}
 use mathlib.Core.List.{List, [], _∷_, _++_, append-assoc, append-nil}
 use mathlib.Core.Option.{Option, some}
-use mathlib.Core.Path.{_≡_, refl, sym, ap, ap₂, _∙_, subst}
+use mathlib.Core.Path.{_≡_, refl, sym, ap, ap₂, _∙_}
 use Prim.Native.Nat.{ℕ, zero, suc, _+_, _-_, _≤_, _<_}
 use native.Mathlib.Numerals.{unary-clauses}
 use native.Mathlib.Omega.{arith}
@@ -61,29 +61,30 @@ empty-most w = go (eqb w 2)
     go true = omega arith
     go false = omega arith
 
--- a record's bytes and then an empty remark: x and e are what is put, `mid` is the room between
-module _ (w : ℕ) (s : List ℕ) (from n at : ℕ) (out x e : List ℕ) (long : n ≡ getD s from 0) (inside : from + 18 + getD s from 0 ≤ length s)
-    (xs : x ≡ part s from (from + 18 + n - from)) (es : e ≡ emptyRemark w) (room : at + length (recordFrom w s from) ≤ length out) where
+-- a record's bytes x and then an empty remark are put; `mid` is the room between
+module _ (w : ℕ) (s : List ℕ) (from n at : ℕ) (out x : List ℕ) (long : n ≡ getD s from 0) (inside : from + 18 + getD s from 0 ≤ length s)
+    (xs : x ≡ part s from (from + 18 + n - from)) (room : at + length (recordFrom w s from) ≤ length out) where
   bytes-here : x ≡ part s from (18 + getD s from 0)
   bytes-here =
       let k : from + 18 + n - from ≡ 18 + getD s from 0 = omega arith in
       xs ∙ ap (part s from) k
 
-  both : length x + length e ≡ length (recordFrom w s from)
-  both = omega (arith, ap length bytes-here, ap length es, length-append (part s from (18 + getD s from 0)) (emptyRemark w))
+  both : length x + length (emptyRemark w) ≡ length (recordFrom w s from)
+  both = omega (arith, ap length bytes-here, length-append (part s from (18 + getD s from 0)) (emptyRemark w))
 
   pub first-room : at + length x ≤ length out
   first-room = omega (arith, both)
 
   module _ (next : ℕ) (mid : List ℕ) (place : next ≡ at + length x) (put : mid ≡ putAt out at x) where
-    pub second-room : next + length e ≤ length mid
-    second-room = omega (arith, both, ap length put, put-length out x at first-room)
+    -- k is the length of what is put behind
+    pub second-room : (k : ℕ) → k ≡ length (emptyRemark w) → next + k ≤ length mid
+    second-room k e = omega (arith, both, ap length put, put-length out x at first-room)
 
-    pub record-put : (r : ℕ) (last : List ℕ) → r ≡ next + length e → last ≡ putAt mid next e
+    pub record-put : (r : ℕ) (last e : List ℕ) → r ≡ next + length e → last ≡ putAt mid next e → e ≡ emptyRemark w
         → (r ≡ at + length (recordFrom w s from)) × (last ≡ putAt out at (recordFrom w s from))
-    record-put r last p l = (
-      omega (arith, both),
-      l ∙ ap₂ (λ (o : List ℕ) (i : ℕ). putAt o i e) put place ∙ put-twice out x e at (omega (arith, first-room)) ∙ ap₂ (λ (a b : List ℕ). putAt out at (a ++ b)) bytes-here es,
+    record-put r last e p l es = (
+      omega (arith, both, ap length es),
+      l ∙ ap₂ (λ (o : List ℕ) (i : ℕ). putAt o i e) put place ∙ put-twice out x e at (omega (arith, first-room)) ∙ ap₂ (λ (y z : List ℕ). putAt out at (y ++ z)) bytes-here es,
     )
 
 -- the two bytes of the count

@@ -8,7 +8,7 @@ use native.Mathlib.Omega.{arith}
 use borrow.Author.Tests.{ne-eqb, le-ltb}
 use lib.Dec.{eqb, ltb}
 use lib.ListN.{length, getD, take, drop, length-append, List·getD-append}
-use lib.Seq.{take-append-le, drop-at, drop-append-add}
+use lib.Seq.{take-append-le, drop-at, drop-append-add, drop-append-seam}
 use Rattle.kind.specs.Kind.{kindOf, isKnown}
 use Rattle.octets.specs.Bytes.{numberAt}
 use Rattle.sheet_record.specs.Layout.{Layout}
@@ -83,6 +83,14 @@ module _ (y : Layout) (n : ℕ) (body rest : List ℕ) (whole : length body ≡ 
       named : (b : Bool) → read (cond b (bad 5) (fieldsOf n body (y .tail rest))) ≡ cond b (ends 5) (followed n body (behindTail y m rest (y .tail rest)))
       named true = refl
       named false = tailed (y .tail rest)
+
+-- a record with a whole tail e: what it says, and then what is said behind it
+pub entries-past : (y : Layout) (m n : ℕ) (body e u : List ℕ) → length body ≡ n + 17 → y .tail (e ++ u) ≡ some (length e)
+    → entriesFrom y (suc m) (n ∷ (body ++ (e ++ u))) ≡ inFront n body (some (entriesFrom y m u))
+entries-past y m n body e u whole t =
+    entries-head y n body (e ++ u) whole m
+    ∙ ap (λ (o : Option ℕ). inFront n body (behindTail y m (e ++ u) o)) t
+    ∙ ap (λ (x : List ℕ). inFront n body (some (entriesFrom y m x))) (drop-append-seam e u)
 
 -- where no record is left to read, any byte is one too many
 pub left-over : (y : Layout) (n : ℕ) (u : List ℕ) → entriesFrom y zero (n ∷ u) ≡ ends 4

@@ -4,7 +4,6 @@ use mathlib.Core.Option.{Option, none, some}
 use mathlib.Core.Path.{_≡_, refl, sym, ap, subst, _∙_}
 use Prim.Native.Nat.{ℕ, zero, suc, _+_, _≤_}
 use lib.ListN.{length}
-use lib.Seq.{drop-append-seam}
 use Rattle.octets.specs.Bytes.{numberAt}
 use Rattle.sheet_record.specs.Layout.{remarkTail, remarkLayout}
 use Rattle.sheet_record.proofs.Tails.{layout-two, whole-remark}
@@ -12,17 +11,13 @@ use Rattle.sheet_head.specs.Head.{headFault}
 use Rattle.sheet.specs.Sheet.{sheetOf}
 use Rattle.sheet_search.specs.Remarks.{Alike, same, cut, more, DifferInRemarks}
 use Rattle.sheet.proofs.Entries.{Entries, entriesFrom}
-use Rattle.sheet.proofs.Heads.{inFront, behindTail, entries-head, left-over}
+use Rattle.sheet.proofs.Heads.{inFront, behindTail, entries-head, entries-past, left-over}
 use Rattle.sheet_search.proofs.Pages.{pageOf, pageBy, page-behind}
 
 -- a record with its remark, and with its remark cut short: what it says, and what is said behind it
 module _ (m n : ℕ) (body : List ℕ) (whole : length body ≡ n + 17) where
   passed : (a u : List ℕ) → entriesFrom remarkLayout (suc m) (n ∷ (body ++ (length a ∷ (a ++ u)))) ≡ inFront n body (some (entriesFrom remarkLayout m u))
-  passed a u =
-      let r : List ℕ = length a ∷ (a ++ u) in
-      entries-head remarkLayout n body r whole m
-      ∙ ap (λ (o : Option ℕ). inFront n body (behindTail remarkLayout m r o)) (whole-remark a u)
-      ∙ ap (λ (x : List ℕ). inFront n body (some (entriesFrom remarkLayout m x))) (drop-append-seam a u)
+  passed a u = entries-past remarkLayout m n body (length a ∷ a) u whole (whole-remark a u)
 
   cut-short : (a : List ℕ) → remarkTail a ≡ none → entriesFrom remarkLayout (suc m) (n ∷ (body ++ a)) ≡ inFront n body none
   cut-short a e = entries-head remarkLayout n body a whole m ∙ ap (λ (o : Option ℕ). inFront n body (behindTail remarkLayout m a o)) e

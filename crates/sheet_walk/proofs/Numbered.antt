@@ -15,7 +15,6 @@ use Rattle.sheet.specs.Structure.{placesFrom, faultFrom}
 use Rattle.sheet.proofs.Accept.{read, accepted-head, accepted-fault, accepted-is, headed}
 use Rattle.sheet.proofs.Kept.{counted, place-at, kept-at}
 use Rattle.sheet.proofs.Walk.{recordsFrom}
-use Rattle.sheet_search.specs.declared.Lookup.{Lookup}
 use Rattle.sheet_search.specs.declared.Lookup.the-variants.{Hit, Miss}
 use Rattle.sheet_walk.specs.Records.{recordIn, recordBy, recordOf}
 

@@ -1,5 +1,4 @@
 -- `convert_records::empty_length`, by the version.
-use mathlib.Core.Path.{_≡_}
 use native.Mathlib.Omega.{arith}
 use Rattle.convert_records.proofs.Turns.{empty-two, empty-other}
 use Rattle.convert_records.proofs.empty_length.Statement.{statement}

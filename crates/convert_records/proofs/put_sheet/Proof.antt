@@ -1,6 +1,5 @@
 -- `convert_records::put_sheet`: 14 where the room is too short, else the header and then the records.
 use mathlib.Core.List.{List}
-use mathlib.Core.Path.{_≡_}
 use Prim.Native.Nat.{ℕ, _+_, _≤_}
 use native.Mathlib.Omega.{arith}
 use borrow.Author.Needs.{needs}
@@ -8,7 +7,7 @@ use lib.ListN.{length}
 use Rattle.octets.proofs.Told.{fits, short, tells-refused, tells-text}
 use Rattle.sheet.specs.Sheet.{sheetOf}
 use Rattle.convert_records.specs.Records.{recordsAs, sheetAs, recordsOf}
-use Rattle.convert_records.proofs.Turns.{Reading, reading, header-room, headed-room, put-whole}
+use Rattle.convert_records.proofs.Turns.{reading, header-room, headed-room, put-whole}
 use Rattle.convert_records.proofs.put_sheet.Statement.{statement}
 use Rattle.convert_records.proofs.put_sheet.Tie as tie
 

@@ -1,5 +1,5 @@
 -- `sheet_version::check`: the header's refusal, then 3 for another version, then the sheet's number.
-use mathlib.Core.Path.{_≡_, sym, ap, _∙_}
+use mathlib.Core.Path.{sym, ap, _∙_}
 use native.Mathlib.Omega.{arith}
 use Rattle.sheet.specs.Sheet.{numberOf}
 use Rattle.sheet.proofs.Accept.{headed}
