@@ -2,9 +2,9 @@
  *
  * A sheet is the bytes of a file as docs/FORMAT.md has it: named states, each with a kind and two values and, in
  * version 2, a remark of up to 255 bytes, which no answer depends on: two sheets within 65,536 bytes that differ only
- * in remarks get equal numbers and equal answers from every call but eas_remark and eas_back, the places of their names
- * aside. A spelled name is a name by RFC 3986: letters, digits and - . _ ~ stand for themselves, any other byte is %
- * and two hexadecimal digits. A name itself is 1 to 40 bytes of any value.
+ * in remarks get equal numbers and equal answers from every call but eas_remark, eas_back and eas_add, the places of
+ * their names aside. A spelled name is a name by RFC 3986: letters, digits and - . _ ~ stand for themselves, any other
+ * byte is % and two hexadecimal digits. A name itself is 1 to 40 bytes of any value.
  *
  * kind  first value                    second value                   answer
  *   1   pressure in 10^-6 Pa,          density in 10^-11 kg/m3,       letter 'T': temperature in 10^-6 K
@@ -43,9 +43,9 @@ extern "C" {
 
 /* The version of this header. The library has the same soname as long as the first number stays. */
 #define EAS_VERSION_MAJOR 2
-#define EAS_VERSION_MINOR 5
+#define EAS_VERSION_MINOR 6
 #define EAS_VERSION_PATCH 0
-#define EAS_VERSION "2.5.0"
+#define EAS_VERSION "2.6.0"
 
 /* Whether this header is of a version or a later one: #if !EAS_VERSION_AT_LEAST(2, 0, 0) ... #error */
 #define EAS_VERSION_AT_LEAST(major, minor, patch)                                                                      \
@@ -66,12 +66,12 @@ enum {
     /* the sheet as a whole */
     EAS_SHEET_TOO_LONG = 1,  /* over 65,536 bytes; after all the sheet's own, a sheet that eas_forward would make */
     EAS_NOT_A_SHEET = 2,     /* under 7 bytes, or the first three are not EAS */
-    EAS_VERSION_UNKNOWN = 3, /* its version is neither 1 nor 2; for eas_forward not 1, for eas_back not 2 */
+    EAS_VERSION_UNKNOWN = 3, /* its version is neither 1 nor 2; for eas_forward not 1, for eas_back and eas_add not 2 */
     /* each record in turn */
     EAS_RECORD_CUT = 4, /* its length byte, its rest or its remark is cut; after the records, bytes are left over */
     EAS_RECORD_NAME_LENGTH = 5, /* its name's length is 0 or over 40 */
     EAS_KIND_UNKNOWN = 6,       /* its kind is none of the table above */
-    EAS_NAME_REPEATED = 16,     /* an earlier record has its name */
+    EAS_NAME_REPEATED = 16,     /* an earlier record has its name; of a state to be added, any record */
     /* a name */
     EAS_SPELLING_WRONG = 7, /* a byte or a percent form of the spelling is wrong */
     EAS_NAME_LENGTH = 8,    /* the name's length, not its spelling's, is 0 or over 40 */
@@ -87,6 +87,8 @@ enum {
                                   from 0; else its gamma is not above 1.01, or is 2 or more */
     /* a sheet that eas_back would make, after the sheet's own */
     EAS_REMARK_NOT_EMPTY = 18, /* a record has a remark, which version 1 does not hold */
+    /* a sheet that eas_add would make, after the sheet's own, 7, 8, and 6 and 16 of the new state */
+    EAS_SHEET_FULL = 19, /* it would be over 65,536 bytes */
     /* a text */
     EAS_ROOM_TOO_SHORT = 14, /* the room is shorter than the text */
     EAS_LIST_TOO_LONG = 15   /* the name list is over 65,536 bytes */
@@ -127,6 +129,8 @@ static inline const char *eas_reason(uint32_t number) {
         return "energy outside what the pressure fits cover at this density";
     case EAS_REMARK_NOT_EMPTY:
         return "a state has a remark, which version 1 of the sheet does not hold";
+    case EAS_SHEET_FULL:
+        return "with one more state the sheet would be over 65,536 bytes";
     case EAS_ROOM_TOO_SHORT:
         return "the room for the text is too short";
     case EAS_LIST_TOO_LONG:
@@ -184,6 +188,27 @@ typedef struct {
     uint32_t number;
     size_t length;
 } eas_text;
+
+/* A walk over a sheet's records, which the host keeps: how many it has given, and how many the sheet had when it began.
+ * Any two numbers may be handed in. */
+typedef struct {
+    uint32_t given, count;
+} eas_walk;
+
+/* A walk that begins. Refused: the walk is 0, 0. */
+typedef struct {
+    uint32_t number;
+    eas_walk walk;
+} eas_begun;
+
+/* number 0: the first `length` bytes of the room are the line of the record that was given, and the walk has given one
+ * more; where length is 0 there was none left, and the walk is as it was. Refused: length is 0, the walk is as it was.
+ */
+typedef struct {
+    uint32_t number;
+    size_t length;
+    eas_walk walk;
+} eas_step;
 
 /* across is y + 7,000,000: the decimal logarithm of the density over 1.292e-7 kg/m3, in millionths, 0 to 10,000,000.
  * up is the answer's value, of a pressure whole pascals, rounded down. Both are whole numbers. */
@@ -248,9 +273,34 @@ eas_text eas_forward(const uint8_t *sheet, size_t n, uint8_t *out, size_t room);
  * version but 2; then 18 where a remark is not empty; then 14. The result has a byte less for each record.
  *
  * What either writes is an accepted sheet with the same names, kinds and values in the same order: every other call
- * that takes a sheet gives for the one what it gives for the other, the places of names and remarks aside. Forward then
+ * that takes a sheet, eas_add aside, gives for the one what it gives for the other, the places of names and remarks
+ * aside. Forward then
  * back, and back then forward, return the same bytes. */
 eas_text eas_back(const uint8_t *sheet, size_t n, uint8_t *out, size_t room);
+
+/* Begins a walk over the records that a sheet of either version has now: 1 to 6 or 16. */
+eas_begun eas_begin(const uint8_t *sheet, size_t n);
+
+/* A step of a walk: 1 to 6 or 16 of the sheet; then nothing, length 0, where the walk has given as many records as it
+ * counted or as the sheet has; then 14. Else the next record's listing line, as eas_line has it for that record's name:
+ * the name spelled as eas_spell writes it; a state that is refused has the line "NAME ! NUMBER". A refusal leaves the
+ * walk as it was: after 14 call again with EAS_LINE_ROOM bytes, which are always enough.
+ *
+ * Every step checks the sheet: a walk over the fullest one, 3,289 records, takes about 57 ms where eas_list takes 1.5
+ * for all their names. A listing to which nothing is added goes by eas_list. */
+eas_step eas_next(const uint8_t *sheet, size_t n, eas_walk walk, uint8_t *out, size_t room);
+
+/* Writes a sheet of version 2 with one more record behind the others, its remark empty: 1 to 6 or 16 of the sheet, 3
+ * for every version but 2; then of the new state 7 or 8, 6 (every kind over 255 too), 16 where a record has its name;
+ * then 19 where the result is over 65,536 bytes; then 14. The values may be of any size: a state is judged when it is
+ * worked out. The result has 19 bytes more and the name: EAS_SHEET_ROOM bytes are always enough.
+ *
+ * What it writes is an accepted sheet with the same records in the same places, and the new one: a search for the new
+ * name finds it, every other search finds what it found. A walk that began on the sheet before goes on over the result
+ * as if nothing had been added: the same lines in the same order, and the same end. One that begins on the result
+ * covers the new record. */
+eas_text eas_add(const uint8_t *sheet, size_t n, const uint8_t *spelled, size_t m, uint32_t kind, uint64_t first,
+                 uint64_t second, uint8_t *out, size_t room);
 
 #ifdef __cplusplus
 }

@@ -1,18 +1,22 @@
-"""Judges every line of crates/vectors/stdout that answers a read, write, check, find, forward or back of crates/vectors/stdin:
-spelled names and sheets. Written from document 01 (Names, State sheet, Where an input stops) and requests 5 (remarks) and
-6 (one version of a sheet to the other) alone.
-A line that is wrong fails, and so does a refusal that no line visits."""
+"""Judges every line of crates/vectors/stdout that answers neither a state nor a walk over weights of crates/vectors/stdin: spelled
+names, sheets, walks and adds. Written from document 01 (Names, State sheet, Where an input stops, Listing program) and requests
+5 (remarks), 6 (one version of a sheet to the other) and 7 (adding during a listing) alone. What a listing line says of a state is
+taken from the state's own stored line, which tests/states.py judges.
+A line that is wrong fails, and so does a refusal that no line visits, or a pair of refusals of which an add must give the first."""
 
 import re
 import sys
 from functools import partial
+from itertools import combinations
 from pathlib import Path
 
 VECTORS = Path(__file__).resolve().parent.parent / "crates" / "vectors"
 SPELLING = re.compile(rb"([A-Za-z0-9._~-]|%[0-9A-Fa-f]{2})*")
 KINDS = (1, 2, 3)
 LONGEST = 65_536
+LINE_ROOM = 192
 PRIME = 4_294_967_291
+STATES = {}
 
 
 def number(big_endian):
@@ -125,13 +129,15 @@ def find(sheet_text, spelling_text):
     return 0, b" kind %d first %d second %d at %d remark at %d length %d <%s>" % (*found[name], name)
 
 
+def record_of(version, name, kind, first, second):
+    """a record's bytes, in version 2 with an empty remark"""
+    values = bytes([kind % 256]) + first.to_bytes(8, "big") + second.to_bytes(8, "big")
+    return bytes([len(name)]) + name + values + b"\0" * (version == 2)
+
+
 def sheet_of(found, version):
-    """the sheet with these records, in version 2 with empty remarks"""
-    remark = b"\0" if version == 2 else b""
-    text = b"EAS" + version.to_bytes(2, "big") + len(found).to_bytes(2, "big")
-    for name, (kind, first, second, *_) in found.items():
-        text += bytes([len(name)]) + name + bytes([kind]) + first.to_bytes(8, "big") + second.to_bytes(8, "big") + remark
-    return text
+    header = b"EAS" + version.to_bytes(2, "big") + len(found).to_bytes(2, "big")
+    return header + b"".join(record_of(version, name, *record[:3]) for name, record in found.items())
 
 
 def whole(room):
@@ -154,6 +160,92 @@ def convert(version, other, room_text, sheet_text):
     return refusal, says + whole(room)
 
 
+# ---- walks and adds
+
+
+def line(name, record):
+    """a record's listing line"""
+    state = record[:3]
+    if state not in STATES:
+        sys.exit(f"no line has the state {state}")
+    return spelled(name) + b" " + STATES[state] + b"\n"
+
+
+def begun(s):
+    """a refusal's number, what a line says, and the walk: how many records it has given, and how many there are"""
+    refusal, found = records(s)
+    return refusal, b" %d, walk 0 %d" % (refusal, len(found)), (0, len(found))
+
+
+def begin(sheet_text):
+    return begun(sheet(sheet_text))[:2]
+
+
+def step(s, walk, room):
+    """a refusal's number, the next record's line or nothing, the room with it at its start, and the walk behind it"""
+    refusal, found = records(s)
+    given, count = walk
+    text = line(*list(found.items())[given]) if given < min(count, len(found)) else b""
+    refusal, _, room = put(text, room, refusal)
+    return (refusal, b"", room, walk) if refusal else (0, text, room, (given + bool(text), count))
+
+
+def bracketed(text):
+    """with / for the end of a listing line, which has none"""
+    return b" <%s>" % text.replace(b"\n", b"/")
+
+
+def next_record(room_text, given_text, count_text, sheet_text):
+    refusal, text, room, walk = step(sheet(sheet_text), (int(given_text), int(count_text)), b"." * int(room_text))
+    return refusal, b" %d %d, walk %d %d" % (refusal, len(text), *walk) + bracketed(room)
+
+
+def added(s, room, spelling, *numbers):
+    """every refusal that applies, with its place and in order; what a line says; the room with the grown sheet"""
+    own, found = records(s, (2,))
+    wrong, _ = read(spelling)
+    name = coded(rb"%(..)", word(spelling)) if wrong != 7 else b""
+    kind, first, second = (int(number) for number in numbers)
+    text = s[:5] + (len(found) + 1).to_bytes(2, "big") + s[7:] + record_of(2, name, kind, first, second)
+    new = [wrong, 6 * (kind not in KINDS), 16 * (name in found), 19 * (len(text) > LONGEST), 14 * (len(room) < len(text))]
+    refusals = [("sheet", own)] * bool(own) + [("state", number) for number in new if number]
+    _, says, room = put(text, room, refusals[0][1] if refusals else 0)
+    return refusals, says, room
+
+
+def add(room_text, sheet_text, *state):
+    refusals, says, room = added(sheet(sheet_text), b"." * int(room_text), *state)
+    shown_pairs.update(combinations(refusals, 2))
+    return refusals[0][1] if refusals else 0, says + whole(room)
+
+
+def during(sheet_text, acts):
+    """acts in turn, on a sheet that adds make longer: a walk gives the records that its sheet had when it began"""
+    s, walk, covered, all_says = sheet(sheet_text), (0, 0), [], b""
+    for act, *words in (act.split(b":") for act in acts.split(b",")):
+        if act == b"begin":
+            _, says, walk = begun(s)
+            covered = list(records(s)[1].items())
+        elif act == b"next":
+            expected = line(*covered[walk[0]]) if walk[0] < len(covered) else b""
+            refusal, text, _, walk = step(s, walk, b"." * LINE_ROOM)
+            if not refusal and text != expected:
+                sys.exit(f"not what the walk began with: {acts}")
+            says = b" refused %d" % refusal if refusal else bracketed(text)
+        else:
+            refusals, says, room = added(s, b"." * LONGEST, *words)
+            s = s if refusals else room[: int(says)]
+        all_says += says
+    return 0, all_says + whole(s)
+
+
+# the pairs of refusals of which an add must give the first: the sheet's before those of the new state, and these in order
+PAIRS = {(("sheet", own), ("state", new)) for own in (1, 2, 3, 4, 5, 6, 16) for new in (7, 8, 6, 14)}
+PAIRS |= {(("sheet", own), ("state", 19)) for own in (1, 3, 4, 16)}
+PAIRS |= {(("state", first), ("state", second)) for first in (7, 8) for second in (6, 19, 14)}
+PAIRS |= set(combinations([("state", new) for new in (6, 16, 19, 14)], 2))
+shown_pairs = set()
+
 # how many words a case has before its label, and the numbers that its lines must show
 CASES = {
     b"read": (read, 1, {0, 7, 8}),
@@ -162,7 +254,18 @@ CASES = {
     b"find": (find, 2, {0, 3, 4, 6, 7, 8, 9, 16}),
     b"forward": (partial(convert, 1, 2), 2, {0, 1, 2, 3, 4, 5, 6, 14, 16}),
     b"back": (partial(convert, 2, 1), 2, {0, 1, 2, 3, 4, 5, 6, 14, 16, 18}),
+    b"begin": (begin, 1, {0, 1, 2, 3, 4, 5, 6, 16}),
+    b"next": (next_record, 4, {0, 1, 2, 3, 4, 5, 6, 14, 16}),
+    b"add": (add, 6, {0, 1, 2, 3, 4, 5, 6, 7, 8, 14, 16, 19}),
+    b"during": (during, 2, {0}),
 }
+
+
+def in_a_listing(answer):
+    """a state by its stored line, and what a listing line says of it behind the name"""
+    kind, first, second, number, letter, _, y, z, _, _, value, *_ = answer.split(b" ")
+    says = b"! " + number if number != b"0" else b" ".join((letter, y, z, value))
+    return (int(kind), int(first), int(second)), says
 
 
 def main():
@@ -170,6 +273,7 @@ def main():
     answers = (VECTORS / "stdout").read_bytes().splitlines()
     if len(cases) != len(answers):
         sys.exit(f"{len(cases)} cases and {len(answers)} answers")
+    STATES.update(in_a_listing(answer) for case, answer in zip(cases, answers) if case.startswith(b"state "))
     shown = {what: [] for what in CASES}
     for case, answer in zip(cases, answers):
         what, rest = case.split(b" ", 1)
@@ -184,8 +288,8 @@ def main():
             sys.exit(f"{case}: {answer}")
         shown[what].append(refusal)
     missing = {what: numbers - set(shown[what]) for what, (_, _, numbers) in CASES.items() if numbers - set(shown[what])}
-    if missing:
-        sys.exit(f"no line shows {missing}")
+    if missing or PAIRS - shown_pairs:
+        sys.exit(f"no line shows {missing or PAIRS - shown_pairs}")
     print(", ".join(f"{len(numbers)} {what.decode()}" for what, numbers in shown.items()), "confirmed")
 
 

@@ -1,11 +1,11 @@
-"""The sheets of crates/vectors/data, from document 01, State sheet, and requests 5 (remarks) and 6 (one version to the other).
-Compares the folder with them; --write writes it."""
+"""The sheets of crates/vectors/data, from document 01, State sheet, and requests 5 (remarks), 6 (one version to the other) and
+7 (adding during a listing). Compares the folder with them; --write writes it."""
 
 import sys
 from pathlib import Path
 
 DATA = Path(__file__).resolve().parent.parent / "crates" / "vectors" / "data"
-D0 = 129_200_000_000
+P0, D0, E0 = 101_330_000_000, 129_200_000_000, 78_408_400
 
 
 def record(name, kind, first, second):
@@ -42,6 +42,21 @@ LONGEST = remarked(numbered(1, [*range(140, 256), *range(123)]), [TURNED[i:] + T
 # with a byte more in a name it is too long
 FITTING, LONGER = (ONES + TWOS[: 2876 - n] + numbered(3, range(n)) for n in (13, 14))
 
+SAMPLE = [record(b"nose/cap 1", 1, P0, D0), record(b"42", 2, E0, D0), record(b"hot", 1, 100 * P0, D0 // 10)]
+# with the sample's last a state for each refusal; then a pressure, and the longest name before a value of 17 digits
+LISTED = [
+    *SAMPLE,
+    record(b"\xaf", 1, 0, D0),
+    record(b"~/", 1, P0, 12_919),
+    record(b"%41", 2, 10**12, 12_920),
+    record(b"?", 3, 10**12, 12_920),
+    record(b"sheet", 3, 31_214_946_272, 40_950_811_623),
+    record(b"/" * 40, 3, 62_282_005_960, 1000 * D0),
+]
+LISTED_REMARKS = [b"", b"x", b"", b"\x01a\x01" + bytes(16), b"\n", b"", b"EAS\0\2\0\1", b"", b"last"]
+# more records than a byte counts, each with a value of its own
+COUNTED = [record(i.to_bytes(2, "big"), 2, E0 + 1000 * i, D0) for i in range(300)]
+
 
 def with_remark(place):
     """three records, the one at a place with a remark of 255 bytes"""
@@ -54,8 +69,7 @@ def last(records):
 
 
 def sheets():
-    sample = [("nose/cap 1", 1, 101_330_000_000, D0), ("42", 2, 78_408_400, D0), ("hot", 1, 10_133_000_000_000, D0 // 10)]
-    yield "sample", sheet([record(name.encode(), *rest) for name, *rest in sample])
+    yield "sample", sheet(SAMPLE)
     yield "3276", sheet(numbered(2, range(3267)) + numbered(3, range(9)))
     yield "3289", sheet(FULL)
     yield "last_name_new", sheet(last(numbered(3, [9])))
@@ -82,6 +96,11 @@ def sheets():
     yield "back_from_65536", sheet(remarked(FITTING, [b""] * 3132), version=2)
     for place, name in enumerate(("first", "middle", "last")):
         yield f"remark_255_{name}", with_remark(place)
+    yield "listed_1", sheet(LISTED)
+    yield "listed_2", sheet(remarked(LISTED, LISTED_REMARKS), version=2)
+    yield "300", sheet(remarked(COUNTED, [bytes([i % 7]) * (i % 7) for i in range(300)]), version=2)
+    yield "255", sheet(remarked(ONES[:255], [b""] * 255), version=2)
+    yield "add_to_65536", sheet(remarked(FITTING[:-1], [b""] * 3131), version=2)
 
 
 def main():

@@ -5,6 +5,7 @@
 #include <string.h>
 
 #include "tgas.h"
+#include "tools/record.h"
 
 enum { SLOTS = 8192, MOST_RECORDS = 65536 / 19 + 1, NONE = 0xffff };
 
@@ -59,7 +60,7 @@ static uint64_t number_at(const uint8_t *from) {
     return number;
 }
 
-static inline int is_known(uint8_t kind) {
+static inline int is_known(uint32_t kind) {
     return kind >= 1 && kind <= 3;
 }
 
@@ -129,6 +130,12 @@ uint32_t baseline_check(const uint8_t *sheet, size_t n) {
     return fill(&t, sheet, n);
 }
 
+static eas_record record_of(const table *t, const uint8_t *sheet, unsigned place) {
+    size_t at = t->entry[place].at, length = sheet[at];
+    const uint8_t *rest = sheet + at + 1 + length;
+    return (eas_record){0, rest[0], number_at(rest + 1), number_at(rest + 9), at + 1, length};
+}
+
 /* Reads a spelled name and finds it among the names of an accepted sheet. */
 static eas_record look_up(const table *t, const uint8_t *sheet, const uint8_t *spelled, size_t m) {
     uint8_t name[40];
@@ -136,10 +143,7 @@ static eas_record look_up(const table *t, const uint8_t *sheet, const uint8_t *s
     if (read.number)
         return (eas_record){.number = read.number};
     unsigned i = place_of(t, sheet, name, read.length, hash_of(name, read.length));
-    if (i == NONE)
-        return (eas_record){.number = 9};
-    const uint8_t *rest = sheet + t->entry[i].at + 1 + read.length;
-    return (eas_record){0, rest[0], number_at(rest + 1), number_at(rest + 9), t->entry[i].at + 1, read.length};
+    return i == NONE ? (eas_record){.number = 9} : record_of(t, sheet, i);
 }
 
 eas_record baseline_find(const uint8_t *sheet, size_t n, const uint8_t *spelled, size_t m) {
@@ -204,6 +208,33 @@ eas_text baseline_back(const uint8_t *sheet, size_t n, uint8_t *out, size_t room
         return (eas_text){number ? number : 14, 0};
     copy_records(sheet, out);
     return (eas_text){0, length};
+}
+
+/* The refusal of a state that is to be added, or 0 with its name read. */
+static uint32_t check_typed(const table *t, const uint8_t *sheet, const uint8_t *spelled, size_t m, uint32_t kind,
+                            uint8_t name[40], size_t *length) {
+    eas_text read = baseline_read(spelled, m, name);
+    if (read.number)
+        return read.number;
+    if (!is_known(kind))
+        return 6;
+    *length = read.length;
+    return place_of(t, sheet, name, read.length, hash_of(name, read.length)) != NONE ? 16 : 0;
+}
+
+eas_text baseline_add(const uint8_t *sheet, size_t n, const uint8_t *spelled, size_t m, uint32_t kind, uint64_t first,
+                      uint64_t second, uint8_t *out, size_t room) {
+    table t;
+    uint8_t name[40];
+    size_t length = 0;
+    uint32_t number = fill_of(&t, sheet, n, 2, 2);
+    if (!number)
+        number = check_typed(&t, sheet, spelled, m, kind, name, &length);
+    size_t grown = n + 19 + length;
+    if (number || grown > 65536 || grown > room)
+        return (eas_text){number ? number : grown > 65536 ? 19 : 14, 0};
+    memcpy(out, sheet, n);
+    return (eas_text){0, append_record(out, n, name, length, (uint8_t)kind, first, second)};
 }
 
 static int stands_for_itself(uint8_t c) {
@@ -354,19 +385,44 @@ baseline_answer baseline_search(const uint8_t *sheet, size_t n, const uint8_t *s
     return answer_of(baseline_find(sheet, n, spelled, m));
 }
 
-static size_t write_line(const uint8_t *spelled, size_t m, baseline_answer a, char out[192]) {
-    uint8_t name[40], text[121] = "?";
-    eas_text read = baseline_read(spelled, m, name);
-    if (!read.number)
-        text[baseline_spell(name, read.length, text, 120).length] = 0;
+/* The line of a name, which is read already; of none where that has no bytes. */
+static size_t line_of(const uint8_t *name, size_t length, baseline_answer a, char out[192]) {
+    uint8_t text[121] = "?";
+    if (length > 0)
+        text[baseline_spell(name, length, text, 120).length] = 0;
     if (a.number)
         return (size_t)snprintf(out, 192, "%s ! %u\n", (char *)text, a.number);
     return (size_t)snprintf(out, 192, "%s %c %lld %lld %lld\n", (char *)text, a.letter, llrint(1e6 * a.y),
                             llrint(1e6 * a.z), (long long)floor(a.value));
 }
 
+static size_t write_line(const uint8_t *spelled, size_t m, baseline_answer a, char out[192]) {
+    uint8_t name[40];
+    return line_of(name, baseline_read(spelled, m, name).length, a, out);
+}
+
 size_t baseline_line(const uint8_t *sheet, size_t n, const uint8_t *spelled, size_t m, char out[192]) {
     return write_line(spelled, m, baseline_search(sheet, n, spelled, m), out);
+}
+
+eas_begun baseline_begin(const uint8_t *sheet, size_t n) {
+    table t;
+    uint32_t number = fill(&t, sheet, n);
+    return (eas_begun){number, {0, number ? 0 : t.count}};
+}
+
+eas_step baseline_next(const uint8_t *sheet, size_t n, eas_walk walk, uint8_t *out, size_t room) {
+    table t;
+    char line[192];
+    uint32_t number = fill(&t, sheet, n);
+    if (number || walk.given >= walk.count || walk.given >= t.count)
+        return (eas_step){number, 0, walk};
+    eas_record next = record_of(&t, sheet, walk.given);
+    size_t length = line_of(sheet + next.start, next.length, answer_of(next), line);
+    if (length > room)
+        return (eas_step){14, 0, walk};
+    memcpy(out, line, length);
+    return (eas_step){0, length, {walk.given + 1, walk.count}};
 }
 
 void baseline_listing(const uint8_t *sheet, size_t n, const uint8_t *names, size_t length, FILE *out) {

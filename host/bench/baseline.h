@@ -14,6 +14,10 @@ eas_record baseline_find(const uint8_t *sheet, size_t n, const uint8_t *spelled,
 eas_part baseline_remark(const uint8_t *sheet, size_t n, const uint8_t *spelled, size_t m);
 eas_text baseline_forward(const uint8_t *sheet, size_t n, uint8_t *out, size_t room);
 eas_text baseline_back(const uint8_t *sheet, size_t n, uint8_t *out, size_t room);
+eas_begun baseline_begin(const uint8_t *sheet, size_t n);
+eas_step baseline_next(const uint8_t *sheet, size_t n, eas_walk walk, uint8_t *out, size_t room);
+eas_text baseline_add(const uint8_t *sheet, size_t n, const uint8_t *spelled, size_t m, uint32_t kind, uint64_t first,
+                      uint64_t second, uint8_t *out, size_t room);
 eas_text baseline_read(const uint8_t *spelled, size_t n, uint8_t name[40]);
 eas_text baseline_spell(const uint8_t *name, size_t n, uint8_t *out, size_t room);
 

@@ -46,6 +46,10 @@ static size_t remarked_size, short_size, long_size;
 static uint8_t forward_sheet[SHEET_MOST], small_back_sheet[SHEET_MOST], converted[SHEET_MOST];
 static size_t forward_size, small_back_size;
 
+/* The fullest sheet of version 2 but for its last state, which therefore takes one more. */
+static uint8_t growing_sheet[SHEET_MOST];
+static size_t growing_size;
+
 static text small_names[3], full_names[NAMES];
 static uint8_t name_list[SHEET_MOST + 1];
 static size_t name_list_size;
@@ -140,6 +144,13 @@ static void make_full_sheet(void) {
     }
 }
 
+/* The last record has a name of two bytes and an empty remark. */
+static void make_growing_sheet(void) {
+    memcpy(growing_sheet, remarked_sheet, remarked_size);
+    growing_size = remarked_size - (1 + 2 + RECORD_REST + 1);
+    put_number(growing_sheet + 5, 2, record_count(remarked_sheet) - 1u);
+}
+
 /* NAMES of the fullest sheet's names, spelled, each on a line, in an order that is not the sheet's. */
 static void make_names(void) {
     size_t at = HEAD, used = 0;
@@ -172,8 +183,14 @@ enum { SMALL_CALLS = 30000, FULL_CALLS = 300 };
 
 static uint8_t line[LINE_MOST];
 
+/* A walk of NAMES records that has given some. */
+static eas_walk walk_at(size_t given) {
+    return (eas_walk){(uint32_t)given, NAMES};
+}
+
 #define SMALL small_sheet, small_size, small_names[i % 3].bytes, small_names[i % 3].length
 #define FULL full_sheet, full_size, full_names[i].bytes, full_names[i].length
+#define NEW (const uint8_t *)"new", 3, 1, STANDARD_PRESSURE, STANDARD_DENSITY, converted, sizeof converted
 #define REMARKED remarked_sheet, remarked_size, full_names[i].bytes, full_names[i].length
 
 JOB(library_temperature, states, eas_evaluate(1, temperatures[i].first, temperatures[i].second).value)
@@ -212,6 +229,14 @@ JOB(library_forward, FULL_CALLS, eas_forward(forward_sheet, forward_size, conver
 JOB(plain_forward, FULL_CALLS, baseline_forward(forward_sheet, forward_size, converted, sizeof converted).length)
 JOB(library_back, FULL_CALLS, eas_back(remarked_sheet, remarked_size, converted, sizeof converted).length)
 JOB(plain_back, FULL_CALLS, baseline_back(remarked_sheet, remarked_size, converted, sizeof converted).length)
+JOB(library_add_small, SMALL_CALLS, eas_add(small_back_sheet, small_back_size, NEW).length)
+JOB(plain_add_small, SMALL_CALLS, baseline_add(small_back_sheet, small_back_size, NEW).length)
+JOB(library_add, FULL_CALLS, eas_add(growing_sheet, growing_size, NEW).length)
+JOB(plain_add, FULL_CALLS, baseline_add(growing_sheet, growing_size, NEW).length)
+JOB(library_step_small, SMALL_CALLS, eas_next(small_sheet, small_size, walk_at(i % 3), line, sizeof line).length)
+JOB(plain_step_small, SMALL_CALLS, baseline_next(small_sheet, small_size, walk_at(i % 3), line, sizeof line).length)
+JOB(library_step, FULL_CALLS, eas_next(full_sheet, full_size, walk_at(i), line, sizeof line).length)
+JOB(plain_step, FULL_CALLS, baseline_next(full_sheet, full_size, walk_at(i), line, sizeof line).length)
 JOB(library_line, SMALL_CALLS, eas_line(SMALL, line, sizeof line).length)
 JOB(plain_line, SMALL_CALLS, baseline_line(SMALL, (char *)line))
 JOB(library_lines, NAMES, eas_line(FULL, line, sizeof line).length)
@@ -236,6 +261,25 @@ static double library_list_remarked(void) {
 static double plain_list_remarked(void) {
     baseline_listing(remarked_sheet, remarked_size, name_list, name_list_size, nowhere);
     return fflush(nowhere);
+}
+
+/* A walk over the records whose names are listed, in the sheet's order. */
+static double walk_on(eas_begun begun, eas_step (*next)(const uint8_t *, size_t, eas_walk, uint8_t *, size_t)) {
+    eas_step step = {.walk = {begun.walk.given, NAMES}};
+    double bytes = 0;
+    do {
+        step = next(full_sheet, full_size, step.walk, line, sizeof line);
+        bytes += (double)step.length;
+    } while (step.length > 0);
+    return bytes;
+}
+
+static double library_walk(void) {
+    return walk_on(eas_begin(full_sheet, full_size), eas_next);
+}
+
+static double plain_walk(void) {
+    return walk_on(baseline_begin(full_sheet, full_size), baseline_next);
 }
 
 static const char *program, *self;
@@ -275,10 +319,11 @@ static int be_the_listing(void) {
 }
 
 /* What is measured with NAMES names. */
-static char lines_title[48], list_title[48], remarked_title[64], program_title[48];
+static char lines_title[48], walk_title[48], list_title[48], remarked_title[64], program_title[48];
 
 static void make_titles(void) {
     snprintf(lines_title, sizeof lines_title, "%d,%03d listing lines, fullest sheet", NAMES / 1000, NAMES % 1000);
+    snprintf(walk_title, sizeof walk_title, "a walk of %d,%03d steps, fullest sheet", NAMES / 1000, NAMES % 1000);
     snprintf(list_title, sizeof list_title, "%d,%03d names in one call, fullest sheet", NAMES / 1000, NAMES % 1000);
     snprintf(remarked_title, sizeof remarked_title, "%s of version 2", list_title);
     snprintf(program_title, sizeof program_title, "the listing program, %d,%03d names", NAMES / 1000, NAMES % 1000);
@@ -367,6 +412,7 @@ static void make_all(void) {
     long_size = put_with_remarks(long_sheet, full_sheet, REMARK_MOST);
     forward_size = baseline_back(remarked_sheet, remarked_size, forward_sheet, sizeof forward_sheet).length;
     small_back_size = baseline_forward(small_sheet, small_size, small_back_sheet, sizeof small_back_sheet).length;
+    make_growing_sheet();
     make_names();
     make_titles();
 }
@@ -378,7 +424,8 @@ static void print_head(void) {
     printf("the fullest sheet has %u states in %zu bytes, ", record_count(full_sheet), full_size);
     printf("of version 2 %u in %zu, with remarks of %d bytes %u, with the longest %u; ", record_count(remarked_sheet),
            remarked_size, SHORT_REMARK, record_count(short_sheet), record_count(long_sheet));
-    printf("the fullest that goes forward has %u in %zu bytes.\n", record_count(forward_sheet), forward_size);
+    printf("the fullest that goes forward has %u in %zu bytes, ", record_count(forward_sheet), forward_size);
+    printf("the one that takes one more %u in %zu.\n", record_count(growing_sheet), growing_size);
     printf("Processor time: median of %d repetitions (least to most).\n\n", REPETITIONS);
     printf("| what | library | plain C | ratio |\n|---|---|---|---|\n");
 }
@@ -405,8 +452,13 @@ static void measure_rows(void) {
         {"back, sheet of 3 states", "ns", library_back_small, plain_back_small, SMALL_CALLS, 1e9},
         {"forward, fullest sheet that goes forward", "µs", library_forward, plain_forward, FULL_CALLS, 1e6},
         {"back, fullest sheet of version 2", "µs", library_back, plain_back, FULL_CALLS, 1e6},
+        {"add, sheet of 3 states", "ns", library_add_small, plain_add_small, SMALL_CALLS, 1e9},
+        {"add, fullest sheet that takes one more", "µs", library_add, plain_add, FULL_CALLS, 1e6},
+        {"step of a walk, sheet of 3 states", "ns", library_step_small, plain_step_small, SMALL_CALLS, 1e9},
+        {"step of a walk, fullest sheet", "µs", library_step, plain_step, FULL_CALLS, 1e6},
         {"listing line, sheet of 3 states", "ns", library_line, plain_line, SMALL_CALLS, 1e9},
         {lines_title, "ms", library_lines, plain_lines, 1, 1e3},
+        {walk_title, "ms", library_walk, plain_walk, 1, 1e3},
         {list_title, "ms", library_list, plain_list, 1, 1e3},
         {remarked_title, "ms", library_list_remarked, plain_list_remarked, 1, 1e3},
     };

@@ -4,11 +4,10 @@
 
 #include "bench/baseline.h"
 #include "guard.h"
+#include "tools/convert.h"
 #include "tools/record.h"
 
 static guard result_guard, output_guard;
-
-typedef eas_text conversion(const uint8_t *sheet, size_t n, uint8_t *out, size_t room);
 
 static void convert_into(query q, conversion *convert, conversion *plain, size_t room) {
     static uint8_t expected[ROOM_MOST];

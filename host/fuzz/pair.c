@@ -91,6 +91,20 @@ static void check_records(query a, query b) {
                 "equal records at a place of two sheets");
 }
 
+/* The first steps of a walk; of a refused sheet those that it refuses. */
+static void check_steps(query a, query b) {
+    uint8_t first[LINE_MOST], second[LINE_MOST];
+    eas_begun begun = eas_begin(a.sheet, a.n), other = eas_begin(b.sheet, b.n);
+    require(begun.number == other.number && same_walk(begun.walk, other.walk), "equal walks of two sheets");
+    for (uint32_t i = 0; i <= begun.walk.count && i < 8; i++) {
+        eas_step x = eas_next(a.sheet, a.n, (eas_walk){i, begun.walk.count}, first, sizeof first);
+        eas_step y = eas_next(b.sheet, b.n, (eas_walk){i, begun.walk.count}, second, sizeof second);
+        require(x.number == y.number && x.length == y.length && same_walk(x.walk, y.walk) &&
+                    !memcmp(first, second, x.length),
+                "equal steps of two sheets");
+    }
+}
+
 void check_alike(query q, query other) {
     size_t n = other.n;
     require(eas_check(q.sheet, q.n) == eas_check(other.sheet, n), "equal numbers of two sheets");
@@ -100,6 +114,7 @@ void check_alike(query q, query other) {
             "equal marks of two sheets");
     check_records(q, other);
     check_texts(q, other);
+    check_steps(q, other);
     eas_part remark = eas_remark(other.sheet, n, q.spelled, q.m);
     eas_part plain = baseline_remark(other.sheet, n, q.spelled, q.m);
     require(same_part(remark, plain), "the other sheet's own remark");

@@ -15,8 +15,8 @@ typedef struct {
 size_t values_size(const uint8_t *sheet, size_t n, size_t at);
 size_t record_size(const uint8_t *sheet, size_t n, size_t at);
 
-/* Aborts where two sheets, asked for the same name, are told apart by another call than eas_remark, the places of their
- * names aside, or where the other one's remark is not its own. */
+/* Aborts where two sheets, asked for the same name, are told apart by a call that writes no sheet, eas_remark and the
+ * places of their names aside, or where the other one's remark is not its own. */
 void check_alike(query q, query other);
 
 /* Checks that for a sheet of version 2 within 65,536 bytes and one that differs from it in remarks only. The other

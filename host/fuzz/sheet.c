@@ -1,5 +1,5 @@
 /* Fuzz driver for eas_check, eas_find, eas_remark, eas_record_at, eas_search, eas_plot, eas_line, eas_list,
- * eas_forward, eas_back and eas_evaluate.
+ * eas_forward, eas_back, eas_begin, eas_next, eas_add and eas_evaluate.
  *
  * An input is: one byte of options, one byte with the length of a spelled name, the spelled name, and a sheet.
  *   option 1   the sheet's mark, version and count are put right
@@ -10,14 +10,16 @@
  *   all the other options set: records are added up to the largest sheet or just past it, by the length byte's last
  *   bit; where its second-last one is set, up to the largest of version 1 that goes forward or just past that
  *
- * Sheets, records, remarks and conversions are compared with the plain C calculator, answers judged by the listing's
- * doubles. A sheet of version 2 is compared with one that has other remarks, a converted sheet with its result. */
+ * Sheets, records, remarks, conversions, walks and additions are compared with the plain C calculator, answers judged
+ * by the listing's doubles. A sheet of version 2 is compared with one that has other remarks, a converted sheet with
+ * its result; a walk goes on over a sheet to which a state is added. */
 #include <stdio.h>
 #include <stdlib.h>
 #include <string.h>
 
 #include "bench/baseline.h"
 #include "convert.h"
+#include "growth.h"
 #include "guard.h"
 #include "judge.h"
 #include "pair.h"
@@ -168,9 +170,7 @@ static void check_places(query q, uint32_t number) {
         require(at.number == 0, "a record at its place");
         size_t m = eas_spell(q.sheet + at.start, at.length, spelled, sizeof spelled).length;
         eas_record found = eas_find(q.sheet, q.n, spelled, m);
-        require(found.number == 0 && found.start == at.start && found.length == at.length && found.kind == at.kind &&
-                    found.first == at.first && found.second == at.second,
-                "a record at its place is the one with its name");
+        require(same_record(found, at), "a record at its place is the one with its name");
     }
 }
 
@@ -256,6 +256,7 @@ int LLVMFuzzerTestOneInput(const uint8_t *data, size_t size) {
     check_query(q);
     check_state(sheet, n);
     check_conversions(q);
+    check_growth(q);
     if (n >= HEAD && n <= SHEET_MOST && sheet[3] == 0 && sheet[4] == 2)
         check_pair(q, data, size);
     require(n == 0 || !memcmp(q.sheet, sheet, n), "no call changes the sheet");

@@ -85,6 +85,11 @@ void sheet_parse(parsed_sheet *out, const uint8_t *sheet, size_t n) {
         out->count = 0;
 }
 
+uint32_t sheet_refusal(const parsed_sheet *parsed, uint64_t version) {
+    bool headed = parsed->number != 1 && parsed->number != 2;
+    return headed && parsed->version != version ? 3 : parsed->number;
+}
+
 /* The refusal of a search, or 0 with the place of the record that it finds. */
 static uint32_t search(const parsed_sheet *parsed, const uint8_t *sheet, const uint8_t *spelled, size_t m,
                        size_t *place) {

@@ -18,6 +18,9 @@ typedef struct {
 
 void sheet_parse(parsed_sheet *out, const uint8_t *sheet, size_t n);
 
+/* The sheet's own refusal where it must be of this version: 3 for every other one. */
+uint32_t sheet_refusal(const parsed_sheet *parsed, uint64_t version);
+
 /* What a search finds; refused, every field but the number is 0. */
 eas_record sheet_find(const parsed_sheet *parsed, const uint8_t *sheet, const uint8_t *spelled, size_t m);
 

@@ -130,6 +130,11 @@ finds() {
         fails_only "Given sheet" "$2"
 }
 
+# finds_in_samples FAULT CHECK ENTRY: the same on the samples alone.
+finds_in_samples() {
+    status 1 env FAULT="$1" ENTRY="$3" "$build/faults" && fails_only "Shipped samples" "$2"
+}
+
 # finds_pressures FAULT CHECK [ENTRY]: with the fault in pressures alone, this check fails, and no other, on the samples;
 # the given sheet, which has none, passes.
 finds_pressures() {
@@ -155,9 +160,9 @@ finds_lost_remarks() {
         status 1 env FAULT=11 "$build/faults" "$work/complete.eas" && all_pass "Given sheet"
 }
 
-# tells_conversion ENTRY WORDS: what a conversion by this entry loses of a sheet of version 1 is told in words.
-tells_conversion() {
-    status 1 env FAULT=10 ENTRY="$1" "$build/faults" "$work/complete.eas" && group "Given sheet" | grep -q "$2"
+# tells FAULT ENTRY WORDS: what a fault of this entry does to a sheet of version 1 is told in words.
+tells() {
+    status 1 env FAULT="$1" ENTRY="$2" "$build/faults" "$work/complete.eas" && group "Given sheet" | grep -q "$3"
 }
 
 # names_cause FAULT WORDS [SHEET]: the mistake is told in words.
@@ -218,26 +223,36 @@ for fault in 1 2 3 4 5 7; do
     for entry in "" search plot line list; do
         expect "fault $fault is found, by ${entry:-every entry}" finds $fault $check $entry
     done
+    expect "fault $fault is found, by a walk" finds_in_samples $fault $check next
 done
 for fault in 3 4 5 7 8; do
     due=$fault
     test $fault -le 5 || due=3
-    for entry in "" search plot line list; do
+    for entry in "" search plot line list next; do
         expect "fault $fault in pressures is found, by ${entry:-every entry}" finds_pressures $fault $due $entry
     done
 done
-for entry in "" search plot line list; do
+for entry in "" search plot line list next; do
     expect "an answer that depends on remarks is found, by ${entry:-every entry}" finds_by_remarks $entry
 done
 expect "without remarks it is right" passes_without_remarks
 for entry in "" forward back; do
     expect "a conversion that loses a state is found, by ${entry:-every entry}" finds 10 1 $entry
 done
-expect "a state that is lost is told" tells_conversion forward \
+expect "a state that is lost is told" tells 10 forward \
     "(right, but another where the sheet is converted to its other version)"
-expect "a sheet that does not come back is told" tells_conversion back \
+expect "a sheet that does not come back is told" tells 10 back \
     "complete.eas to version 2 and back does not return the same bytes"
 expect "a conversion that loses remarks is found" finds_lost_remarks
+for entry in "" add; do
+    expect "a name that is added and never decoded is found, by ${entry:-every entry}" finds 12 1 $entry
+done
+expect "a sheet that grows wrongly is told" tells 12 add \
+    "adding a state to $work/complete.eas: the length of the result is wrong"
+for entry in "" next; do
+    expect "a walk over states that are added later is found, by ${entry:-every entry}" finds 13 1 $entry
+done
+expect "such a walk is told" tells 13 next "^ *walk .*(right, but another where states are added to the sheet)"
 expect "remarks that change an answer are named" names_cause 9 "the sheet's remarks change what is shown)" "$work/remarks.eas"
 expect "a neighbour's curve is named" names_cause 3 "by the curve of the neighbouring density range)"
 expect "a missing join is named" names_cause 7 "by the curve of one density range, not joined between two)"

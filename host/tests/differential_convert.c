@@ -5,6 +5,7 @@
 #include <string.h>
 
 #include "differential.h"
+#include "growth.h"
 #include "lent.h"
 #include "pairs.h"
 #include "reach.h"
@@ -93,7 +94,7 @@ static void count_remarks(const parsed_sheet *parsed) {
     reach_if(parsed->remarks[place].length == 255, REMARK_LONGEST);
 }
 
-static void count_sheet(int way, const tried_sheet *sheet, const parsed_sheet *parsed, const converted_sheet *right) {
+static void count_sheet(int way, const tried_sheet *sheet, const parsed_sheet *parsed, const made_sheet *right) {
     size_t result = sheet->n + parsed->count;
     bool read = parsed->number == 0 && parsed->version == ways[way].from;
     by_number[way][right->number] += right->number != 1 || !read;
@@ -105,7 +106,7 @@ static void count_sheet(int way, const tried_sheet *sheet, const parsed_sheet *p
         count_remarks(parsed);
 }
 
-static void count_call(int way, const tried_sheet *sheet, const converted_sheet *right, size_t room, bool nulls) {
+static void count_call(int way, const tried_sheet *sheet, const made_sheet *right, size_t room, bool nulls) {
     bool accepted = right->number == 0;
     by_number[way][14] += accepted && room < right->length;
     reach_if(accepted && room == 0, NO_ROOM);
@@ -118,11 +119,11 @@ static void count_call(int way, const tried_sheet *sheet, const converted_sheet 
 }
 
 /* One call on the sheet that is lent, with null pointers for what is empty where that is asked for. */
-static void compare_room(int way, const tried_sheet *sheet, const converted_sheet *right, size_t room, bool nulls) {
+static void compare_room(int way, const tried_sheet *sheet, const made_sheet *right, size_t room, bool nulls) {
     uint8_t *out = lent_output(&out_lent, room);
     const uint8_t *at = nulls && sheet->n == 0 ? NULL : sheet_lent.bytes;
     eas_text got = ways[way].convert(at, sheet->n, nulls && room == 0 ? NULL : out, room);
-    const char *wrong = judge_conversion(right, room, got, out);
+    const char *wrong = judge_made(right, room, got, out);
     if (wrong == NULL && !lent_output_is(&out_lent, right->bytes, got.length))
         wrong = "a byte that is not the result's";
     if (wrong == NULL && !lent_input_kept(&sheet_lent, sheet->bytes))
@@ -137,7 +138,7 @@ static void compare_room(int way, const tried_sheet *sheet, const converted_shee
 
 /* The result goes back to the sheet, and is answered as the sheet is. */
 static void compare_result(random_source *r, int way, const tried_sheet *sheet, const parsed_sheet *parsed,
-                           const converted_sheet *right) {
+                           const made_sheet *right) {
     static tried_sheet result;
     static parsed_sheet result_parsed;
     memcpy(result.bytes, right->bytes, right->length);
@@ -154,7 +155,7 @@ static void compare_result(random_source *r, int way, const tried_sheet *sheet, 
 
 /* The rooms are none, one that is enough for whatever might be written, and three around the result's length. */
 static void compare_way(random_source *r, int way, const tried_sheet *sheet, const parsed_sheet *parsed) {
-    static converted_sheet right;
+    static made_sheet right;
     sheet_convert(&right, parsed, sheet->bytes, ways[way].from);
     size_t length = right.length, enough = sheet->n + sheet->n / LEAST_RECORD + 1 + random_below(r, 64);
     const size_t rooms[] = {0, enough, length, length - 1, length + 1};
@@ -172,6 +173,7 @@ static void compare_way(random_source *r, int way, const tried_sheet *sheet, con
 static void compare_sheet(random_source *r, const tried_sheet *sheet) {
     static parsed_sheet parsed;
     sheet_parse(&parsed, sheet->bytes, sheet->n);
+    compare_growth(r, sheet, &parsed, 2);
     for (int way = 0; way < WAYS; way++)
         compare_way(r, way, sheet, &parsed);
 }

@@ -1,5 +1,5 @@
-/* Remarks: fixed sheets of version 2, and pairs of sheets that differ in remarks only. Every call but eas_remark and
- * eas_back gives both sheets of a pair the same, the places of their names aside. */
+/* Remarks: fixed sheets of version 2, and pairs of sheets that differ in remarks only. Every call but eas_remark,
+ * eas_back and eas_add gives both sheets of a pair the same, the places of their names aside. */
 #include <inttypes.h>
 #include <stdio.h>
 #include <string.h>

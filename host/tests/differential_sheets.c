@@ -4,6 +4,7 @@
 #include <string.h>
 
 #include "differential.h"
+#include "growth.h"
 #include "lent.h"
 #include "lists.h"
 #include "reach.h"
@@ -37,10 +38,9 @@ static void expect(const search_case *c, bool held, const char *what) {
 }
 
 static void compare_record(const search_case *c, const char *call, const eas_record *expected, eas_record got) {
-    bool same = got.number == expected->number && got.kind == expected->kind && got.first == expected->first &&
-                got.second == expected->second && got.start == expected->start && got.length == expected->length;
-    if (tally_check(same, "%s: expected number %" PRIu32 " kind %" PRIu32 " %" PRIu64 " %" PRIu64 " at %zu length %zu",
-                    call, expected->number, expected->kind, expected->first, expected->second, expected->start,
+    if (tally_check(same_record(got, *expected),
+                    "%s: expected number %" PRIu32 " kind %" PRIu32 " %" PRIu64 " %" PRIu64 " at %zu length %zu", call,
+                    expected->number, expected->kind, expected->first, expected->second, expected->start,
                     expected->length))
         return;
     tally_note("got number %" PRIu32 " kind %" PRIu32 " %" PRIu64 " %" PRIu64 " at %zu length %zu", got.number,
@@ -195,6 +195,7 @@ static void compare_sheet(random_source *r, const tried_sheet *sheet, bool every
     if (!tally_check(number == parsed.number, "eas_check: expected %" PRIu32 ", got %" PRIu32, parsed.number, number))
         show(&c);
     sheets_by_number[version_of(sheet)][parsed.number]++;
+    compare_growth(r, sheet, &parsed, 1);
     compare_places(&c, r, &parsed, every_record);
     random_list(&list, r, &parsed, sheet);
     compare_listing(&c, r, &parsed, &list);

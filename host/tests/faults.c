@@ -1,7 +1,8 @@
 /* Linked in front of the library by the linker's --wrap, this gives the answers of a wrong calculator. In the
  * environment FAULT is the fault, of which 1 to 5 must be found by the check of that number in the checklist; ENTRY is
- * the one entry that has it: search, plot, line, list, forward or back, and without ENTRY, or with an empty one, all
- * have it and eas_evaluate too; LETTER is the one letter of answers that have it, where that is given and not empty.
+ * the one entry that has it: search, plot, line, list, next, forward, back or add, and without ENTRY, or with an empty
+ * one, all have it and eas_evaluate too; LETTER is the one letter of answers that have it, where that is given and not
+ * empty.
  *
  *   1  the search gives 9 for every name with a percent form
  *   2  a name of digits is taken as the number of a row
@@ -14,6 +15,8 @@
  *   9  no state that has a remark is found; check 1 must find it
  *  10  a conversion loses the last state; check 1 must find it
  *  11  a conversion to version 1 drops remarks, where 18 is due; check 1 must find it
+ *  12  a state is added by its name as it is spelled, never decoded; check 1 must find it
+ *  13  a walk goes on over states that were added after its beginning; check 1 must find it
  */
 #include <ctype.h>
 #include <math.h>
@@ -22,6 +25,7 @@
 
 #include "reference/answer.h"
 #include "reference/line.h"
+#include "reference/name.h"
 #include "reference/sheet.h"
 #include "tools/record.h"
 
@@ -32,6 +36,9 @@ eas_text __real_eas_line(const uint8_t *sheet, size_t n, const uint8_t *spelled,
 eas_text __real_eas_list(const uint8_t *sheet, size_t n, const uint8_t *names, size_t m, uint8_t *out, size_t room);
 eas_text __real_eas_forward(const uint8_t *sheet, size_t n, uint8_t *out, size_t room);
 eas_text __real_eas_back(const uint8_t *sheet, size_t n, uint8_t *out, size_t room);
+eas_step __real_eas_next(const uint8_t *sheet, size_t n, eas_walk walk, uint8_t *out, size_t room);
+eas_text __real_eas_add(const uint8_t *sheet, size_t n, const uint8_t *spelled, size_t m, uint32_t kind, uint64_t first,
+                        uint64_t second, uint8_t *out, size_t room);
 eas_answer __wrap_eas_search(const uint8_t *sheet, size_t n, const uint8_t *spelled, size_t m);
 eas_answer __wrap_eas_evaluate(uint32_t kind, uint64_t first, uint64_t second);
 eas_mark __wrap_eas_plot(const uint8_t *sheet, size_t n, const uint8_t *spelled, size_t m);
@@ -39,6 +46,9 @@ eas_text __wrap_eas_line(const uint8_t *sheet, size_t n, const uint8_t *spelled,
 eas_text __wrap_eas_list(const uint8_t *sheet, size_t n, const uint8_t *names, size_t m, uint8_t *out, size_t room);
 eas_text __wrap_eas_forward(const uint8_t *sheet, size_t n, uint8_t *out, size_t room);
 eas_text __wrap_eas_back(const uint8_t *sheet, size_t n, uint8_t *out, size_t room);
+eas_step __wrap_eas_next(const uint8_t *sheet, size_t n, eas_walk walk, uint8_t *out, size_t room);
+eas_text __wrap_eas_add(const uint8_t *sheet, size_t n, const uint8_t *spelled, size_t m, uint32_t kind, uint64_t first,
+                        uint64_t second, uint8_t *out, size_t room);
 
 static const int64_t ONE = 10000000000;
 
@@ -219,6 +229,28 @@ eas_text __wrap_eas_list(const uint8_t *sheet, size_t n, const uint8_t *names, s
         m -= past;
     }
     return all;
+}
+
+eas_step __wrap_eas_next(const uint8_t *sheet, size_t n, eas_walk walk, uint8_t *out, size_t room) {
+    if (!has_fault("next"))
+        return __real_eas_next(sheet, n, walk, out, room);
+    eas_walk longer = {walk.given, fault() == 13 ? UINT32_MAX : walk.count};
+    eas_step step = __real_eas_next(sheet, n, longer, out, room);
+    step.walk.count = walk.count;
+    if (step.length == 0)
+        return step;
+    eas_record record = eas_record_at(sheet, n, walk.given);
+    written_name name = name_write(sheet + record.start, record.length);
+    step.length = faulty_line(sheet, n, name.bytes, name.length, out, room).length;
+    return step;
+}
+
+eas_text __wrap_eas_add(const uint8_t *sheet, size_t n, const uint8_t *spelled, size_t m, uint32_t kind, uint64_t first,
+                        uint64_t second, uint8_t *out, size_t room) {
+    written_name twice = name_write(spelled, m);
+    return fault() == 12 && has_fault("add") && !twice.number
+               ? __real_eas_add(sheet, n, twice.bytes, twice.length, kind, first, second, out, room)
+               : __real_eas_add(sheet, n, spelled, m, kind, first, second, out, room);
 }
 
 /* A converted sheet without its last state. */

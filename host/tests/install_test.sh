@@ -41,7 +41,7 @@ as_cplusplus() {
 # Only the header's entries are visible, and all of them.
 exports_entries() {
     nm -D --defined-only "$1/lib/libairstate.so" | awk '{ print $3 }' | sort > "$work/exported"
-    grep -o 'eas_[a-z_]*(.*);$' "$1/include/airstate.h" | sed 's/(.*//' | sort > "$work/declared"
+    sed -n 's/^[a-z0-9_]* \(eas_[a-z_]*\)(.*/\1/p' "$1/include/airstate.h" | sort > "$work/declared"
     test -s "$work/declared" && diff "$work/exported" "$work/declared"
 }
 

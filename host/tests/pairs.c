@@ -51,6 +51,28 @@ static void compare_lines(const sheet_pair *p, const tried_bytes *spelling, cons
     }
 }
 
+/* A walk that has given as many records, begun on both: the same line, in its bytes and in one less, and the same end.
+ */
+static void compare_steps(const sheet_pair *p, uint32_t given) {
+    uint8_t line[LINE_MAX_BYTES];
+    eas_begun begun[2];
+    for (int i = 0; i < 2; i++)
+        begun[i] = eas_begin(p->at[i], p->sheet[i]->n);
+    expect(p, NULL, begun[0].number == begun[1].number && same_walk(begun[0].walk, begun[1].walk),
+           "eas_begin differs between the sheets");
+    eas_walk walk = {given, begun[0].walk.count};
+    eas_step first = eas_next(p->at[0], p->sheet[0]->n, walk, line, sizeof line);
+    for (size_t less = 0; less < 2; less++) {
+        bool cut = first.length > 0 && less > 0;
+        size_t room = first.length - cut, length = cut ? 0 : first.length;
+        eas_step got = eas_next(p->at[1], p->sheet[1]->n, walk, lent_output(&line_lent, room), room);
+        bool same = got.number == (cut ? 14 : first.number) && got.length == length;
+        expect(p, NULL,
+               same && same_walk(got.walk, cut ? walk : first.walk) && lent_output_is(&line_lent, line, length),
+               "eas_next differs between the sheets");
+    }
+}
+
 /* Every call that takes a spelled name. Each sheet's remark is its own. */
 static void compare_spelled(const sheet_pair *p, const tried_bytes *spelling) {
     const uint8_t *spelled = lent_input(&spelling_lent, spelling->bytes, spelling->n);
@@ -113,6 +135,7 @@ void compare_pair(random_source *r, sheet_pair *p) {
     }
     compare_place(p, parsed->count);
     compare_place(p, random_bits(r) >> random_below(r, 64));
+    compare_steps(p, (uint32_t)random_below(r, parsed->count + 2));
     for (int i = 0; i < 2; i++)
         expect(p, NULL, lent_input_kept(&lent[i], p->sheet[i]->bytes), "a sheet's bytes changed");
 }

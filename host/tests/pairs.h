@@ -14,8 +14,8 @@ typedef struct {
 /* Before the first pair. */
 void pairs_open(void);
 
-/* Compares every call that takes a sheet, by names, lists and places that are chosen at random. Each sheet's remarks
- * are its own. */
+/* Compares every call that takes a sheet and writes none, by names, lists and places that are chosen at random. Each
+ * sheet's remarks are its own. */
 void compare_pair(random_source *r, sheet_pair *p);
 
 #endif

@@ -12,6 +12,7 @@ int main(int count, char **arguments) {
     tally_start("selftest", seed);
     test_numbers();
     test_texts();
+    test_growth();
     test_listing();
     test_answers(seed);
     return tally_end();

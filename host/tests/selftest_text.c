@@ -10,9 +10,6 @@
 #include "selftest.h"
 #include "tally.h"
 
-#define BYTES(text) (const uint8_t *)text, sizeof text - 1
-#define VALUES "\0\0\0\0\0\0\0\x07\0\0\0\0\0\0\x01\x02"
-
 /* Sheets with the number that document 01's table gives, also where two conditions meet. */
 static const struct {
     const uint8_t *bytes;
@@ -166,29 +163,28 @@ static const struct {
     {2, BYTES("EAS\0\1\0"), 2, BYTES("")},
 };
 
-static converted_sheet right;
-
-/* Wrong results of a conversion in exactly its room: none may be taken. */
-static void test_wrong_results(void) {
+void test_wrong_results(const made_sheet *right) {
     static uint8_t written[SHEET_MAX_BYTES];
-    const size_t length = right.length;
-    const uint32_t number = right.number;
+    const size_t length = right->length;
+    const uint32_t number = right->number;
     const eas_text made = {number, length};
     const eas_text others[] = {{number + 1, 0}, {number + 1, length}, {number, length + 1}, {14, 0}, {0, number != 0}};
-    memcpy(written, right.bytes, length);
-    tally_check(judge_conversion(&right, length, made, written) == NULL, "the right result");
+    memcpy(written, right->bytes, length);
+    tally_check(judge_made(right, length, made, written) == NULL, "the right result");
     for (size_t i = 0; i < LENGTH(others); i++)
-        tally_check(judge_conversion(&right, length, others[i], written) != NULL, "another number or length");
+        tally_check(judge_made(right, length, others[i], written) != NULL, "another number or length");
     for (size_t i = 0; i < length; i++) {
         written[i] ^= 1;
-        tally_check(judge_conversion(&right, length, made, written) != NULL, "another byte %zu", i);
+        tally_check(judge_made(right, length, made, written) != NULL, "another byte %zu", i);
         written[i] ^= 1;
     }
     if (number != 0)
         return;
-    tally_check(judge_conversion(&right, length - 1, made, written) != NULL, "a result without room");
-    tally_check(judge_conversion(&right, length - 1, (eas_text){14, 0}, written) == NULL, "14 without room");
+    tally_check(judge_made(right, length - 1, made, written) != NULL, "a result without room");
+    tally_check(judge_made(right, length - 1, (eas_text){14, 0}, written) == NULL, "14 without room");
 }
+
+static made_sheet right;
 
 static void test_conversions(void) {
     for (size_t i = 0; i < LENGTH(conversions); i++) {
@@ -198,7 +194,7 @@ static void test_conversions(void) {
         tally_check(right.number == conversions[i].number && right.length == conversions[i].length &&
                         memcmp(right.bytes, conversions[i].result, right.length) == 0,
                     "number %" PRIu32 ", %zu bytes", right.number, right.length);
-        test_wrong_results();
+        test_wrong_results(&right);
     }
 }
 

@@ -337,32 +337,32 @@ remarks_cleared() {
 }
 expect "with its remarks cleared, the sample is of version 1" remarks_cleared
 
-# stays WHAT VERB MESSAGE: the sheet at hand is refused with this message.
+# stays WHAT WORDS MESSAGE: the sheet at hand is refused with this message, by a verb and what comes before the file.
 echo kept > "$work/kept"
 stays() {
-    ends "$1" 1 "sheet_tool: $work/wrong.eas: $3" "$tool" "$2" -o "$work/kept" "$work/wrong.eas"
+    ends "$1" 1 "sheet_tool: $work/wrong.eas: $3" "$tool" $2 -o "$work/kept" "$work/wrong.eas"
     expect "$1: the output stays" test "$(cat "$work/kept")" = kept
 }
-# unconverted WHAT SHEET MESSAGE: so is this one, either way.
-unconverted() {
-    printf "$2" > "$work/wrong.eas"
-    stays "forward: $1" forward "$3"
-    stays "back: $1" back "$3"
+# unread WHAT MESSAGE [SHEET]: so it is, or this one, by every verb that reads an accepted sheet.
+unread() {
+    test $# -lt 3 || printf "$3" > "$work/wrong.eas"
+    for words in forward back "add x 1 1 1" list; do
+        stays "$words: $1" "$words" "$2"
+    done
 }
 no_sheet="refusal 2: not a sheet: under 7 bytes, or it does not begin with EAS"
-unconverted "an empty file" '' "$no_sheet"
-unconverted "a text" 'name,kind\n' "$no_sheet"
-unconverted "a third version" 'EAS\0\003\0\0' "$other_version: it is 3"
-unconverted "a missing record" "EAS\\0\\001\\0\\002$record" "record 2: $cut"
-unconverted "a missing length of a remark" "$two$record"'\0'"$c" "record 2: $cut"
-unconverted "a cut remark" "$two$record"'\0'"$c"'\003xy' "record 2: $cut"
-unconverted "bytes left over" "$one$record"'\0x' "after record 1: $cut"
-unconverted "a repeated name" "$two$record"'\0'"$record"'\0' \
-    "record 2: refusal 16: the name was seen earlier in the sheet"
-unconverted "an unknown kind" 'EAS\0\001\0\001\001b\004'"$values" "record 1: refusal 6: the kind is unknown"
+seen="refusal 16: the name was seen earlier in the sheet"
+unread "an empty file" "$no_sheet" ''
+unread "a text" "$no_sheet" 'name,kind\n'
+unread "a third version" "$other_version: it is 3" 'EAS\0\003\0\0'
+unread "a missing record" "record 2: $cut" "EAS\\0\\001\\0\\002$record"
+unread "a missing length of a remark" "record 2: $cut" "$two$record"'\0'"$c"
+unread "a cut remark" "record 2: $cut" "$two$record"'\0'"$c"'\003xy'
+unread "bytes left over" "after record 1: $cut" "$one$record"'\0x'
+unread "a repeated name" "record 2: $seen" "$two$record"'\0'"$record"'\0'
+unread "an unknown kind" "record 1: refusal 6: the kind is unknown" 'EAS\0\001\0\001\001b\004'"$values"
 head -c 65537 /dev/zero > "$work/wrong.eas"
-stays "forward: a file over the limit" forward "$too_long"
-stays "back: a file over the limit" back "$too_long"
+unread "a file over the limit" "$too_long"
 cp samples/sample.eas "$work/wrong.eas"
 stays "back from version 1" back "refusal 3: the sheet is of version 1 already, and nothing needs to be done"
 cp samples/with-remarks.eas "$work/wrong.eas"
@@ -405,6 +405,154 @@ would_have "a byte more" 65537 3132
 longest 0 3133
 would_have "a state more" 65544 3133
 
+# Adding. eight NUMBER: its eight bytes for printf, high byte first; -1 is the largest.
+eight() {
+    for shift in 56 48 40 32 24 16 8 0; do
+        printf '\\%03o' $(($1 >> shift & 255))
+    done
+}
+# adds WHAT SHEET WORDS SHEET: with the state of these words the sheet is that one.
+adds() {
+    printf "$2" > "$work/from.eas" && printf "$4" > "$work/to.eas"
+    expect "adding $1" grows_to $3
+}
+grows_to() {
+    "$tool" add "$@" "$work/from.eas" > "$work/grown.eas" && cmp "$work/grown.eas" "$work/to.eas"
+}
+bare='EAS\0\002\0\0' state='\001'$(eight 101330500000)$(eight 129200000000)'\0'
+adds "to a sheet without states" "$bare" "n 1 101330.5 1.292" "$one"'\001n'"$state"
+adds "behind remarks, which stay" "$two$record$remark$c$remark" "x%2fy 1 101330.5 1.292" \
+    "$second$record$remark$c$remark"'\003x/y'"$state"
+adds "with empty remarks before it" "$one$record"'\0' "n TEMPERATURE 1.013305e5 +1.292" "$two$record"'\0\001n'"$state"
+adds "an entropy" "$bare" "n entropy 7840.841 .5" "$one"'\001n\002'$(eight 7840841)$(eight 50000000000)'\0'
+adds "a pressure" "$bare" "n Pressure 1e9 1292" "$one"'\001n\003'$(eight 1000000000000)$(eight 129200000000000)'\0'
+adds "a pressure by its number" "$bare" "n 3 0.001 0.00000000001" "$one"'\001n\003'$(eight 1)$(eight 1)'\0'
+adds "nothing as values" "$bare" "n 1 0 0.000" "$one"'\001n\001'$(eight 0)$(eight 0)'\0'
+adds "the largest values" "$bare" "n 1 18446744073709.551615 184467440.73709551615" \
+    "$one"'\001n\001'$(eight -1)$(eight -1)'\0'
+adds "a name of every sort of spelling" "$bare" "%41b~%7e-._%c3%BC%00%25 1 101330.5 1.292" \
+    "$one"'\013Ab~~-._\303\274\0%%'"$state"
+adds "a name that is another's in capitals" "$one$record"'\0' "A 1 101330.5 1.292" "$two$record"'\0\001A'"$state"
+adds "a name that begins as an option" "$bare" "-- -o 1 101330.5 1.292" "$one"'\002-o'"$state"
+adds "a name of digits" "$one"'\0011'"$state" "01 1 101330.5 1.292" "$two"'\0011'"$state"'\00201'"$state"
+adds "a name of forty bytes" "$bare" "$forty 1 101330.5 1.292" "$one"'\050'$forty"$state"
+adds "a name of forty percent forms" "$bare" "$(seq 40 | sed 's/.*/%5A/' | tr -d '\n') 1 101330.5 1.292" \
+    "$one"'\050'$(printf '%040d' 0 | tr 0 Z)"$state"
+
+# packed STATES: a text of that many states with a remark in the first.
+packed() {
+    { echo name,kind,first,density,remark; seq 1001 $((1000 + $1)) | sed -e 's/$/,2,7,9,/' -e '1s/$/x/'; } | "$tool" pack
+}
+counts() {
+    packed "$1" > "$work/from.eas" && packed $(($1 + 1)) > "$work/to.eas" &&
+        grows_to $((1001 + $1)) 2 0.007 0.00000000009
+}
+for states in 1 254 255 256 511 2500; do
+    expect "a state more than $states" counts $states
+done
+# The text of a sheet with a row more, packed, is the sheet with that state added, which goes back as any other.
+as_packed() {
+    { "$tool" unpack --spelled "$1" | cut -d , -f 1-4; echo n%2F1,1,101330500000,129200000000; } | "$tool" pack \
+        > "$work/packed.eas" && "$tool" forward "$work/packed.eas" > "$work/to.eas" &&
+        "$tool" forward "$1" > "$work/from.eas" && grows_to n%2f1 temperature 101330.5 1.292 &&
+        "$tool" back "$work/grown.eas" | cmp - "$work/packed.eas"
+}
+for sample in $(basename -s .eas samples/*.eas | grep -v with-remarks); do
+    expect "$sample.eas with a state more is as packed" as_packed samples/$sample.eas
+done
+remarks_stay() {
+    "$tool" unpack samples/with-remarks.eas > "$work/before" &&
+        "$tool" add new 2 78408.4 1.292 samples/with-remarks.eas | "$tool" unpack > "$work/after" &&
+        head -n -1 "$work/after" | cmp - "$work/before" &&
+        tail -n 1 "$work/after" | grep '^new,.*2,78408400,129200000000,,$'
+}
+expect "a sheet with remarks keeps them" remarks_stay
+by_pipe() {
+    printf "$one$record"'\0' | "$tool" add b 1 1 1 | "$tool" add c%2Fd 2 1 1 - | "$tool" add -o "$work/piped.eas" e 3 1 1 &&
+        "$tool" unpack --spelled "$work/piped.eas" | tail -n +2 > "$work/lines" &&
+        printf 'a,1,1,1\nb,1,1000000,100000000000\nc%%2Fd,2,1000,100000000000\ne,3,1000,100000000000\n' | cmp - "$work/lines"
+}
+expect "standard input and output" by_pipe
+added_in_place() {
+    cp "$work/piped.eas" "$work/sheet.eas" && "$tool" add -o "$work/sheet.eas" f 1 1 1 "$work/sheet.eas" &&
+        "$tool" add f 1 1 1 "$work/piped.eas" | cmp - "$work/sheet.eas"
+}
+expect "a sheet that grows in place" added_in_place
+
+# What is not added. The sheet at hand has the names a and x/y.
+printf "$two$record$remark"'\003x/y'"$state" > "$work/wrong.eas"
+spelling="refusal 7: a byte or a percent form of the spelled name is wrong"
+length="refusal 8: the name has no bytes or over 40"
+for name in x/y a%2 a%zz % %% a%C3ü b:; do
+    stays "adding the name $name" "add $name 1 1 1" "$spelling: '$name'"
+done
+ends "adding a name with a space" 1 "sheet_tool: $work/wrong.eas: $spelling: 'b c'" \
+    "$tool" add -o "$work/kept" 'b c' 1 1 1 "$work/wrong.eas"
+ends "adding no name" 1 "sheet_tool: $work/wrong.eas: $length: ''" "$tool" add -o "$work/kept" '' 1 1 1 "$work/wrong.eas"
+stays "adding a name of 41 bytes" "add ${forty}x 1 1 1" "$length: '${forty}x'"
+stays "a wrong spelling before its length" "add ${forty}x% 1 1 1" "$spelling: '${forty}x%'"
+stays "adding a name that is there" "add a 1 1 1" "$seen, in record 1"
+stays "adding a name that is there, spelled otherwise" "add %61 2 1 1" "$seen, in record 1"
+stays "adding the last name again" "add x%2fy 3 1 1" "$seen, in record 2"
+cp samples/sample.eas "$work/wrong.eas"
+stays "adding to version 1" "add n 1 1 1" "$other_version: it is 1, and forward writes it in version 2"
+stays "adding to version 1 before the name" "add hot% 1 1 1" "$other_version: it is 1, and forward writes it in version 2"
+# untyped WHAT MESSAGE WORDS: what is typed is told, whatever the sheet.
+untyped() {
+    ends "adding $1" 1 "sheet_tool: $2" "$tool" add -o "$work/kept" $3 "$work/none.eas"
+    expect "adding $1: the output stays" test "$(cat "$work/kept")" = kept
+}
+for kind in 0 4 257 4294967297 18446744073709551617 energy T 1.5; do
+    untyped "a kind $kind" "kind: refusal 6: the kind is unknown: '$kind'" "n $kind 1 1"
+done
+untyped "a word as pressure" "pressure_Pa: 'x' $decimal" "n 1 x 1"
+untyped "a word as density" "density_kg_m3: '1,2' $decimal" "n 1 1 1,2"
+untyped "too fine an energy" "energy_J_kg: '1.0001' has more digits than the unit of 1e-3 J/kg holds" "n 2 1.0001 1"
+untyped "too fine a density" "density_kg_m3: '1e-12' has more digits than the unit of 1e-11 kg/m³ holds" "n 3 1 1e-12"
+untyped "too large a pressure" "pressure_Pa: '18446744073709.551616' is over 18446744073709.551615" \
+    "n 1 18446744073709.551616 1"
+ends "a density that was forgotten" 1 "sheet_tool: density_kg_m3: 'samples/sample.eas' $decimal" \
+    "$tool" add n 1 1 samples/sample.eas
+
+# The fullest sheet: 3,129 states and a name of forty bytes, or 3,131 and one of two; a byte more is too much.
+grows_full() {
+    longest "$1" "$2" && "$tool" forward "$work/wrong.eas" > "$work/from.eas" && "$tool" add "$3" 1 1 1 "$work/from.eas" \
+        > "$work/full.eas" && test "$(wc -c < "$work/full.eas")" -eq 65536 &&
+        "$tool" unpack --spelled "$work/full.eas" | tail -n 1 | grep "^$3,1,1000000,100000000000\$"
+}
+overfull() {
+    longest "$1" "$2" && "$tool" forward -o "$work/wrong.eas" "$work/wrong.eas" && stays "$3" "add $4 1 1 1" \
+        "refusal 19: with one more state the sheet would be over 65,536 bytes: it would have $5"
+}
+expect "a name of forty bytes fills the sheet" grows_full 17 3129 $forty
+overfull 18 3129 "a byte too much for a name of forty" $forty 65537
+expect "a name of two bytes fills the sheet" grows_full 13 3131 zz
+overfull 14 3131 "a byte too much for a name of two" zz 65537
+overfull 13 3132 "adding to the fullest sheet" zz 65557
+stays "a name that is there, before the sheet is full" "add %41 1 1 1" "$seen, in record 66"
+stays "a wrong name, before the sheet is full" "add z% 1 1 1" "$spelling: 'z%'"
+
+# Listing. lists SHEET LINES: the sheet at hand has this listing.
+lists() {
+    "$tool" list "$1" > "$work/lines" && printf "$2" | cmp - "$work/lines"
+}
+sample_lines='nose%%2Fcap%%201 T 0 0 273213936\n42 S 0 0 61182203\nhot ! 13\n'
+expect "the listing of a sheet" lists samples/sample.eas "$sample_lines"
+"$tool" forward -o "$work/two.eas" samples/sample.eas
+expect "the listing of version 2" lists "$work/two.eas" "$sample_lines"
+"$tool" add n%2f1 pressure 7840840 0.408566 "$work/two.eas" > "$work/three.eas"
+expect "the listing with a state more" lists "$work/three.eas" "$sample_lines"'n%%2F1 P -500000 2000000 689731610396\n'
+"$tool" add -o "$work/three.eas" '%FF%00' 1 0 1 "$work/two.eas"
+expect "the listing with a state that is refused" lists "$work/three.eas" "$sample_lines"'%%FF%%00 ! 10\n'
+printf "$bare" > "$work/bare.eas"
+expect "the listing of no states" lists "$work/bare.eas" ''
+lists_all() {
+    "$tool" list -o "$work/lines" - < "$work/full.eas" && "$tool" unpack --spelled "$work/full.eas" | tail -n +2 |
+        cut -d , -f 1 > "$work/names" && cut -d ' ' -f 1 "$work/lines" | cmp - "$work/names" &&
+        test "$(wc -l < "$work/lines")" -eq 3132
+}
+expect "the listing of the fullest sheet" lists_all
+
 # Files.
 no_file='No such file or directory'
 ends "a missing text" 1 "sheet_tool: $work/none.csv: $no_file" "$tool" pack "$work/none.csv"
@@ -414,6 +562,14 @@ ends "a folder as sheet" 1 "sheet_tool: $work: Is a directory" "$tool" unpack "$
 ends "a missing sheet to convert" 1 "sheet_tool: $work/none.eas: $no_file" "$tool" back "$work/none.eas"
 ends "a full disk for a converted sheet" 1 "sheet_tool: /dev/full: No space left on device" \
     "$tool" forward -o /dev/full samples/sample.eas
+ends "a missing sheet to add to" 1 "sheet_tool: $work/none.eas: $no_file" "$tool" add n 1 1 1 "$work/none.eas"
+ends "a folder as sheet to add to" 1 "sheet_tool: $work: Is a directory" "$tool" add n 1 1 1 "$work"
+ends "a full disk for a sheet that grew" 1 "sheet_tool: /dev/full: No space left on device" \
+    "$tool" add -o /dev/full n 1 1 1 "$work/two.eas"
+ends "a missing sheet to list" 1 "sheet_tool: $work/none.eas: $no_file" "$tool" list "$work/none.eas"
+for sheet in samples/sample.eas "$work/full.eas"; do
+    ends "a full disk for a listing" 1 "sheet_tool: /dev/full: No space left on device" "$tool" list -o /dev/full "$sheet"
+done
 ends "no such folder for the output" 1 "sheet_tool: $work/none/x.eas: $no_file" \
     "$tool" unpack -o "$work/none/x.eas" samples/sample.eas
 ends "a folder as output" 1 "sheet_tool: $work: Is a directory" "$tool" unpack -o "$work" samples/sample.eas
@@ -427,16 +583,24 @@ expect "a full disk behind standard output" full_disk
 # Options.
 try="
 Try 'sheet_tool --help'."
-ends "no word" 2 "sheet_tool: pack, unpack, forward or back must be said$try" "$tool"
-ends "a wrong word" 2 "sheet_tool: 'pakc' is none of pack, unpack, forward and back$try" "$tool" pakc
-ends "a word that is too long" 2 "sheet_tool: 'forwards' is none of pack, unpack, forward and back$try" "$tool" forwards
+ends "no word" 2 "sheet_tool: pack, unpack, forward, back, add or list must be said$try" "$tool"
+for word in pakc forwards adds ad lists; do
+    ends "a wrong word, $word" 2 "sheet_tool: '$word' is none of pack, unpack, forward, back, add and list$try" "$tool" $word
+done
 ends "two files" 2 "sheet_tool: one file at a time: b is too much$try" "$tool" pack a b
 ends "an unknown option" 2 "sheet_tool: unrecognized option '--sj'$try" "$tool" unpack --sj
 ends "an option without its value" 2 "sheet_tool: option requires an argument -- 'o'$try" "$tool" unpack -o
-for word in pack forward back; do
+for word in pack forward back add list; do
     ends "an option of another word, for $word" 2 "sheet_tool: --si and --spelled belong to unpack$try" "$tool" $word --si
 done
 ends "two files to convert" 2 "sheet_tool: one file at a time: b is too much$try" "$tool" forward a b
+ends "two files to list" 2 "sheet_tool: one file at a time: b is too much$try" "$tool" list a b
+ends "two files to add to" 2 "sheet_tool: one file at a time: b is too much$try" "$tool" add n 1 1 1 a b
+for words in "" n "n 1" "n 1 1"; do
+    ends "a state that is not whole: $words" 2 "sheet_tool: add takes a name, a kind, a first value and a density$try" \
+        "$tool" add $words
+done
+ends "a negative value" 2 "sheet_tool: invalid option -- '1'$try" "$tool" add n 1 -1 1
 
 # Round trips of the samples: as they are, in SI units, with names as text.
 same() {

@@ -229,6 +229,16 @@ void fullest_sheet(tried_sheet *out, random_source *r, int version, size_t n) {
                             .count = SHEET_LIMIT});
 }
 
+void remarked_sheet(tried_sheet *out, random_source *r, size_t n) {
+    put_sheet(out, r,
+              &(sheet_plan){.version = 2,
+                            .damage = RECORD_DAMAGES,
+                            .large = true,
+                            .limit = n,
+                            .count = SHEET_LIMIT,
+                            .remark_length = REMARK_MOST});
+}
+
 static void put_random_sheet(tried_sheet *out, random_source *r, const sheet_plan *plan) {
     put_sheet(out, r, plan);
     for (uint64_t damages = random_below(r, 6); damages > 3; damages--)

@@ -38,6 +38,9 @@ void random_bare_sheet(tried_sheet *out, random_source *r, int large);
  * last name takes the bytes that are left over. Remarks are empty. Up to 65,536 bytes it is accepted. */
 void fullest_sheet(tried_sheet *out, random_source *r, int version, size_t n);
 
+/* The same of version 2 with remarks of 255 bytes; the last record's takes the bytes that are left over first. */
+void remarked_sheet(tried_sheet *out, random_source *r, size_t n);
+
 /* A sheet that differs in remarks only from one of version 2 within 65,536 bytes, and is within them too: other remarks
  * in some or all records, a remark that is cut at the end cut otherwise, the rest equal. True where one is cut so. */
 bool change_remarks(tried_sheet *out, random_source *r, const tried_sheet *sheet);

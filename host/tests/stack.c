@@ -10,7 +10,7 @@
 
 #include "tools/record.h"
 
-enum { STACK = 1 << 20, MARK = 0xA7, MOST = 128 * 1024, OWN = 512, SHEETS = 9 };
+enum { STACK = 1 << 20, MARK = 0xA7, MOST = 128 * 1024, OWN = 512, SHEETS = 11, STATES = 192 };
 
 typedef struct {
     uint8_t bytes[SHEET_MOST + 20];
@@ -89,6 +89,23 @@ static void call_back(void) {
     sink = eas_back(current->bytes, current->n, converted, sizeof converted).length;
 }
 
+static void call_begin(void) {
+    sink = eas_begin(current->bytes, current->n).walk.count;
+}
+
+/* Every state that add_record makes, and the end. */
+static void call_next(void) {
+    uint8_t line[LINE_MOST];
+    for (uint32_t given = 0; given < STATES; given++)
+        sink = eas_next(current->bytes, current->n, (eas_walk){given, STATES}, line, sizeof line).length;
+    sink = eas_next(current->bytes, current->n, (eas_walk){STATES, STATES}, line, sizeof line).length;
+}
+
+static void call_add(void) {
+    sink = eas_add(current->bytes, current->n, spelled, spelled_length, 1, UINT64_MAX, 0, converted, sizeof converted)
+               .length;
+}
+
 /* Every record of the sheet, and a kind that is unknown. */
 static void call_evaluate(void) {
     sink = eas_evaluate(0, 0, 0).number;
@@ -158,7 +175,8 @@ static void fill(sheet *s, size_t most) {
 }
 
 /* An empty sheet, a small one, the fullest, one whose last name is repeated, and one that is too long; with the most
- * records of version 2, with the longest remarks, and with the last of these cut; the fullest that goes forward. */
+ * records of version 2, with the longest remarks, and with the last of these cut; the fullest that goes forward; a
+ * small one of version 2, and a large one that takes every name more. */
 static void make_sheets(void) {
     fill(&sheets[0], HEAD);
     fill(&sheets[1], 3000);
@@ -170,6 +188,10 @@ static void make_sheets(void) {
     sheets[6].n = put_with_remarks(sheets[6].bytes, sheets[2].bytes, REMARK_MOST);
     sheets[7].n = put_with_remarks(sheets[7].bytes, sheets[2].bytes, REMARK_MOST) - 1;
     fill(&sheets[8], sheets[5].n - record_count(sheets[5].bytes));
+    sheets[9].n = put_with_remarks(sheets[9].bytes, sheets[1].bytes, 0);
+    fill(&sheets[10], sheets[8].n - RECORD_LEAST - NAME_MOST);
+    memcpy(converted, sheets[10].bytes, sheets[10].n);
+    sheets[10].n = put_with_remarks(sheets[10].bytes, converted, 0);
     for (int i = 0; i < SHEETS; i++)
         sheets[i].accepted = eas_check(sheets[i].bytes, sheets[i].n) == 0;
 }
@@ -192,11 +214,14 @@ int main(void) {
         const char *name;
         void (*work)(void);
     } entries[] = {
-        {"eas_check", call_check},         {"eas_find", call_find},     {"eas_remark", call_remark},
-        {"eas_record_at", call_record_at}, {"eas_search", call_search}, {"eas_plot", call_plot},
-        {"eas_evaluate", call_evaluate},   {"eas_line", call_line},     {"eas_list", call_list},
-        {"eas_spell", call_spell},         {"eas_read", call_read},     {"eas_forward", call_forward},
-        {"eas_back", call_back},
+        {"eas_check", call_check},       {"eas_find", call_find},
+        {"eas_remark", call_remark},     {"eas_record_at", call_record_at},
+        {"eas_search", call_search},     {"eas_plot", call_plot},
+        {"eas_evaluate", call_evaluate}, {"eas_line", call_line},
+        {"eas_list", call_list},         {"eas_spell", call_spell},
+        {"eas_read", call_read},         {"eas_forward", call_forward},
+        {"eas_back", call_back},         {"eas_begin", call_begin},
+        {"eas_next", call_next},         {"eas_add", call_add},
     };
     int failures = 0;
     make_sheets();

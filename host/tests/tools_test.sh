@@ -71,6 +71,15 @@ lists_remarks_aside() {
         cmp "$work/listed" "$work/listed-forward"
 }
 
+# walks_as_listed COMMAND...: a walk over each sample has the listing of its names.
+walks_as_listed() {
+    for sample in samples/*.eas; do
+        "$build/sheet_tool" unpack --spelled "$sample" | tail -n +2 | cut -d , -f 1 > "$work/names"
+        in_folder "${sample#samples/}" "$@" < "$work/names" > "$work/listed"
+        test -s "$work/listed" && "$build/sheet_tool" list "$sample" | cmp - "$work/listed" || return 1
+    done
+}
+
 expect "the example prints what is stored" prints_example example.txt sample.eas nose%2fcap%201 42 hot 43 a%2
 expect "the example prints joined temperatures" prints_example example-joined.txt slash-and-space.eas \
     strip%2fT%20low%201 strip%2Fcold%20low refused%2FG%20at%20dense%20end
@@ -78,6 +87,7 @@ expect "the example prints pressures" prints_example example-pressure.txt energy
     low%2fminus%204 upper-edge%2Fon%204 upper-edge%2fbeyond thinnest
 expect "the example prints remarks" prints_example example-remark.txt with-remarks.eas shot%201412%2freservoir \
     1415%2fnose shot%201413%2Fnose 1416
+expect "the example walks over a sheet" prints_example example-walk.txt sample.eas
 expect "no entry uses 128 KB of stack" "$build/stack"
 expect "the benchmark runs" "$build/bench" 1000
 if test $# -gt 0; then
@@ -88,6 +98,7 @@ if test $# -gt 0; then
     expect "a sheet that cannot be opened counts as empty" lists none list.txt no-sheet-output.txt "$@"
     if test -x "$build/sheet_tool"; then
         expect "a listing does not depend on remarks, nor on the version" lists_remarks_aside "$@"
+        expect "a walk has the listing of all names" walks_as_listed "$@"
     else
         skip "sheet_tool was not built"
     fi

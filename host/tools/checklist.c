@@ -10,11 +10,12 @@
 #include "utf8.h"
 
 static const char help[] = "Makes the field engineer's five checks on each SHEET and on the shipped samples.\n"
-                           "Every name is asked for as a user does: by search, as a plot mark, as a listing line\n"
-                           "and in a run list of all names. What is shown is compared with an exact calculation\n"
-                           "that shares no code with the library, and with what the same sheet shows without its\n"
-                           "remarks and converted to its other version. A check that lacks a state in a SHEET says\n"
-                           "so and is no pass for it: the status is 0 only where every check passed, else 1.";
+                           "Every name is asked for as a user does: by search, as a plot mark, as a listing line,\n"
+                           "in a run list of all names and by a walk over the sheet. What is shown is compared with\n"
+                           "an exact calculation that shares no code with the library, and with what the same sheet\n"
+                           "shows without its remarks, converted to its other version and with states added during\n"
+                           "the walk. A check that lacks a state in a SHEET says so and is no pass for it: the status\n"
+                           "is 0 only where every check passed, else 1.";
 
 static const char *const samples[] = {
     "sample", "slash-and-space", "digits-only", "edges-and-transitions", "energy-and-pressure", "with-remarks"};
@@ -55,6 +56,7 @@ static const char *const cause_words[] = {
     [RIGHT] = "right",
     [BY_REMARKS] = "wrong: the sheet's remarks change what is shown",
     [BY_CONVERSION] = "right, but another where the sheet is converted to its other version",
+    [BY_ADDITION] = "right, but another where states are added to the sheet",
     [NOT_FOUND] = "wrong: the sheet has this name",
     [FOUND_ABSENT] = "wrong: no state has this name",
     [ANOTHERS] = "wrong",
@@ -69,7 +71,7 @@ static const char *const cause_words[] = {
 typedef enum { PASSED, FAILED, INCOMPLETE, NO_STATE } verdict;
 
 static verdict verdict_of(int check, const tally *t) {
-    if (t->faulty || t->encoded || t->misconverted)
+    if (t->faulty || t->encoded || t->misconverted || t->misgrown)
         return FAILED;
     if (t->places == check_places[check])
         return PASSED;
@@ -99,7 +101,7 @@ static void print_due(const asked_name *name, const named_state *s) {
 }
 
 static void print_shown(const fault *f, way w) {
-    static const char *const way_words[WAYS] = {"search", "plot mark", "listing line", "run list"};
+    static const char *const way_words[WAYS] = {"search", "plot mark", "listing line", "run list", "walk"};
     const named_state *state = &f->sheet->states[f->name->state];
     shown s = shown_by(f->name, w);
     char text[128];
@@ -113,7 +115,7 @@ static void print_shown(const fault *f, way w) {
         snprintf(text, sizeof text, "%.6f %s", shown_in_units(&state->record, &s),
                  kind_of(state->record.kind)->wanted->unit);
     printf("%*s%-13s %s (%s", INDENT, "", way_words[w], text, cause_words[f->causes[w]]);
-    bool is_own = f->causes[w] == RIGHT || f->causes[w] == BY_CONVERSION;
+    bool is_own = f->causes[w] == RIGHT || f->causes[w] == BY_CONVERSION || f->causes[w] == BY_ADDITION;
     size_t other = is_own ? SIZE_MAX : state_shown(f->sheet, f->name, &s);
     if (other != SIZE_MAX) {
         const written_name *spelled = &f->sheet->states[other].spelled;
@@ -131,7 +133,8 @@ static void print_fault(const tally *t) {
         print_state(&state->record);
     print_due(f->name, state);
     for (way w = 0; w < WAYS; w++)
-        print_shown(f, w);
+        if (is_asked_by(f->name, w))
+            print_shown(f, w);
 }
 
 /* A name of the sheet letter for letter, spelled where that is no text. */
@@ -154,7 +157,8 @@ static void print_encoded(const tally *t) {
            "");
     printf("%*s%.*s finds no state, and the curve stays blank:\n", INDENT, "", (int)name->length,
            (const char *)name->spelled);
-    printf("%*s%.*s", INDENT + 4, "", (int)name->listed.length, name->listed.bytes);
+    const listing_line *listed = &name->lines[BY_LIST];
+    printf("%*s%.*s", INDENT + 4, "", (int)listed->length, listed->bytes);
     printf("%*sOnly %.*s finds it. Decode the names and export the sheet again.\n", INDENT, "", (int)s->spelled.length,
            (const char *)s->spelled.bytes);
 }
@@ -169,6 +173,16 @@ static void print_misconverted(const asked_sheet *sheet) {
     if (!result->returns)
         printf("%*sconverting %s to version %u and back does not return the same bytes\n", INDENT, "", sheet->path,
                other);
+}
+
+/* A sheet to which a state is not added as it must be, or is where it must be refused. */
+static void print_misgrown(const asked_sheet *sheet) {
+    const addition_result *result = &sheet->addition;
+    printf("%*sadding a state to %s: ", INDENT, "", sheet->path);
+    if (result->number != result->due)
+        printf("the library says \"%s\", right is \"%s\"\n", eas_reason(result->number), eas_reason(result->due));
+    else
+        printf("%s of the result is wrong\n", result->wrong);
 }
 
 /* ---- a check in words */
@@ -201,6 +215,8 @@ static verdict print_check(int check, const tally *t, const char *whose) {
         print_encoded(t);
     if (t->misconverted)
         print_misconverted(t->misconverted);
+    if (t->misgrown)
+        print_misgrown(t->misgrown);
     if (t->faulty)
         print_fault(t);
     if (v == NO_STATE || v == INCOMPLETE)
@@ -250,7 +266,7 @@ int main(int argc, char **argv) {
     const tool checklist = {"[SHEET]...", help, options};
     int first = read_options(&checklist, argc, argv);
     bool passed = true;
-    printf("Each state is asked for by search, as a plot mark, as a listing line and in a run list.\n\n");
+    printf("Each state is asked for by search, as a plot mark, as a listing line, in a run list and by a walk.\n\n");
     for (int i = first; i < argc; i++) {
         char title[4096];
         snprintf(title, sizeof title, "Given sheet %s", argv[i]);

@@ -4,17 +4,21 @@
 #include <stdlib.h>
 #include <string.h>
 
+#include "checklist_twins.h"
 #include "options.h"
 #include "reference/answer.h"
-#include "reference/convert.h"
-#include "same.h"
 
-enum { LIST_MOST = 65536 };
+/* No right walk has more lines than a sheet can have states. */
+enum { LIST_MOST = 65536, WALK_MOST = (RECORDS_MOST + 1) * LINE_MOST };
 
-static void *checked(void *memory) {
+void *checked(void *memory) {
     if (!memory)
         exit(refuse("out of memory"));
     return memory;
+}
+
+bool is_asked_by(const asked_name *name, way w) {
+    return w != BY_WALK || name->as == AS_WRITTEN;
 }
 
 bool has_signs(const named_state *s) {
@@ -111,18 +115,19 @@ static void add_names(asked_sheet *sheet) {
 static void ask_alone(asked_sheet *sheet, asked_name *name) {
     name->answer = eas_search(sheet->bytes, sheet->n, name->spelled, name->length);
     name->mark = eas_plot(sheet->bytes, sheet->n, name->spelled, name->length);
-    eas_text text =
-        eas_line(sheet->bytes, sheet->n, name->spelled, name->length, (uint8_t *)name->line.bytes, LINE_MOST);
-    name->line.length = text.number ? 0 : text.length;
+    listing_line *line = &name->lines[BY_LINE];
+    eas_text text = eas_line(sheet->bytes, sheet->n, name->spelled, name->length, (uint8_t *)line->bytes, LINE_MOST);
+    line->length = text.number ? 0 : text.length;
 }
 
-/* Hands each name its line of a run list's text; the last one also what is left over. */
-static void share_lines(asked_name *names, size_t count, const char *text, size_t length) {
+/* Hands each name its line of a text; the last one also what is left over. */
+static void share_lines(asked_name *names, size_t count, way w, const char *text, size_t length) {
     for (size_t i = 0; i < count; i++) {
         const char *end = i + 1 < count ? memchr(text, '\n', length) : NULL;
         size_t used = end ? (size_t)(end - text) + 1 : length;
-        names[i].listed.length = used < LINE_MOST ? used : LINE_MOST;
-        memcpy(names[i].listed.bytes, text, names[i].listed.length);
+        listing_line *line = &names[i].lines[w];
+        line->length = used < LINE_MOST ? used : LINE_MOST;
+        memcpy(line->bytes, text, line->length);
         text += used;
         length -= used;
     }
@@ -140,72 +145,42 @@ static size_t ask_list(asked_sheet *sheet, size_t first) {
     size_t room = (end - first) * LINE_MOST;
     char *out = checked(malloc(room));
     eas_text text = eas_list(sheet->bytes, sheet->n, list, m, (uint8_t *)out, room);
-    share_lines(sheet->names + first, end - first, out, text.number ? 0 : text.length);
+    share_lines(sheet->names + first, end - first, BY_LIST, out, text.number ? 0 : text.length);
     free(out);
     free(list);
     return end;
 }
 
-static void ask_all(asked_sheet *sheet) {
+void ask_names(asked_sheet *sheet) {
     for (size_t i = 0; i < sheet->count; i++)
         ask_alone(sheet, &sheet->names[i]);
     for (size_t i = 0; i < sheet->count;)
         i = ask_list(sheet, i);
 }
 
-static bool same_lines(const listing_line *a, const listing_line *b) {
-    return a->length == b->length && !memcmp(a->bytes, b->bytes, a->length);
+asked_walk begin_walk(const asked_sheet *sheet) {
+    return (asked_walk){eas_begin(sheet->bytes, sheet->n).walk, checked(malloc(WALK_MOST)), 0};
 }
 
-/* Asks for all names in the bytes of a twin, which must show the same. */
-static void compare_with(asked_sheet *sheet, twin t, const uint8_t *bytes, size_t n) {
-    asked_sheet *other = checked(calloc(1, sizeof *other));
-    memcpy(other->bytes, bytes, n);
-    other->n = n;
-    other->count = sheet->count;
-    other->names = checked(malloc(sheet->count * sizeof *other->names));
-    memcpy(other->names, sheet->names, sheet->count * sizeof *other->names);
-    ask_all(other);
-    for (size_t i = 0; i < sheet->count; i++) {
-        asked_name *own = &sheet->names[i], *its = &other->names[i];
-        own->differs[t][BY_SEARCH] = answers_differ(&own->answer, &its->answer) != NULL;
-        own->differs[t][BY_PLOT] = !same_mark(own->mark, its->mark);
-        own->differs[t][BY_LINE] = !same_lines(&own->line, &its->line);
-        own->differs[t][BY_LIST] = !same_lines(&own->listed, &its->listed);
-    }
-    free(other->names);
-    free(other);
+bool step_walk(asked_walk *w, const asked_sheet *sheet) {
+    size_t room = WALK_MOST - w->length;
+    eas_step step = eas_next(sheet->bytes, sheet->n, w->walk, (uint8_t *)w->text + w->length, room);
+    w->walk = step.walk;
+    w->length += step.length;
+    return step.length > 0 && WALK_MOST - w->length >= LINE_MOST;
 }
 
-static eas_text convert(const uint8_t *sheet, size_t n, uint8_t out[SHEET_MOST]) {
-    return (sheet_version(sheet) == 1 ? eas_forward : eas_back)(sheet, n, out, SHEET_MOST);
+void end_walk(asked_walk *w, asked_sheet *sheet) {
+    share_lines(sheet->names, sheet->parsed.count, BY_WALK, w->text, w->length);
+    free(w->text);
 }
 
-/* No answer may depend on the version. What is converted is the sheet without its remarks. */
-static void compare_converted(asked_sheet *sheet, const uint8_t *bare, size_t n) {
-    static uint8_t other[SHEET_MOST], again[SHEET_MOST];
-    static converted_sheet right;
-    uint32_t number = convert(sheet->bytes, sheet->n, other).number;
-    sheet_convert(&right, &sheet->parsed, sheet->bytes, sheet->parsed.version);
-    sheet->conversion = (conversion_result){number, right.number, true};
-    if (right.number == EAS_SHEET_TOO_LONG)
-        return;
-    eas_text there = convert(bare, n, other), back = convert(other, there.length, again);
-    sheet->conversion.returns = !there.number && !back.number && back.length == n && !memcmp(again, bare, n);
-    if (!there.number)
-        compare_with(sheet, CONVERTED, other, there.length);
-}
-
-/* No answer may depend on remarks, nor on the version. */
-static void compare_with_twins(asked_sheet *sheet) {
-    static uint8_t bare[SHEET_MOST];
-    if (sheet_version(sheet->bytes) == 1) {
-        compare_converted(sheet, sheet->bytes, sheet->n);
-        return;
-    }
-    size_t n = put_with_remarks(bare, sheet->bytes, 0);
-    compare_with(sheet, WITHOUT_REMARKS, bare, n);
-    compare_converted(sheet, bare, n);
+void ask_all(asked_sheet *sheet) {
+    asked_walk walk = begin_walk(sheet);
+    ask_names(sheet);
+    while (step_walk(&walk, sheet))
+        continue;
+    end_walk(&walk, sheet);
 }
 
 static bool is_allowed(const eas_record *record, const eas_answer *answer) {
@@ -243,7 +218,7 @@ asked_sheet *ask_sheet(const char *path) {
     sheet->states = checked(calloc(sheet->parsed.count + 1, sizeof *sheet->states));
     add_names(sheet);
     ask_all(sheet);
-    compare_with_twins(sheet);
+    ask_twins(sheet);
     find_truths(sheet);
     return sheet;
 }

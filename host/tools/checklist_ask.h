@@ -1,5 +1,5 @@
-/* The names of a sheet, asked for as a user does: by search, as a plot mark, as a listing line and in a run list of all
- * of them. */
+/* The names of a sheet, asked for as a user does: by search, as a plot mark, as a listing line, in a run list of all of
+ * them and by a walk over the sheet. */
 #ifndef CHECKLIST_ASK_H
 #define CHECKLIST_ASK_H
 
@@ -11,10 +11,12 @@
 #include "reference/name.h"
 #include "reference/sheet.h"
 
-typedef enum { BY_SEARCH, BY_PLOT, BY_LINE, BY_LIST, WAYS } way;
+typedef enum { BY_SEARCH, BY_PLOT, BY_LINE, BY_LIST, BY_WALK, WAYS } way;
 
-/* A sheet with the same states, in which each name is asked for a second time. */
-typedef enum { WITHOUT_REMARKS, CONVERTED, TWINS } twin;
+/* A sheet with the same states, in which each name is asked for a second time; GROWN has up to ADDITIONS behind them.
+ */
+typedef enum { WITHOUT_REMARKS, CONVERTED, GROWN, TWINS } twin;
+enum { ADDITIONS = 8 };
 
 typedef enum {
     AS_WRITTEN, /* as a listing writes the name */
@@ -41,8 +43,8 @@ typedef struct {
     uint8_t spelled[SPELLED_MOST];
     eas_answer answer;
     eas_mark mark;
-    listing_line line, listed;
-    bool differs[TWINS][WAYS]; /* another is shown where the sheet's remarks are taken away; in its other version */
+    listing_line lines[WAYS];  /* from BY_LINE on */
+    bool differs[TWINS][WAYS]; /* another is shown in a twin */
 } asked_name;
 
 /* What the conversion of a sheet to its other version gives as a whole. */
@@ -50,6 +52,12 @@ typedef struct {
     uint32_t number, due; /* its refusal and the right one */
     bool returns;         /* converted again, the same sheet, without its remarks, has the same bytes */
 } conversion_result;
+
+/* What adding states gives. */
+typedef struct {
+    const char *wrong;    /* null, or what is wrong with a result: its number, its length or a byte */
+    uint32_t number, due; /* its refusal and the right one */
+} addition_result;
 
 typedef struct {
     const char *path;
@@ -60,10 +68,34 @@ typedef struct {
     size_t count, room;
     asked_name *names;
     conversion_result conversion;
+    addition_result addition;
 } asked_sheet;
 
 /* Reads a sheet and asks for all its names. Null, with a message, where it cannot be read or is refused. */
 asked_sheet *ask_sheet(const char *path);
+
+/* Memory, or the end of the program where there is none. */
+void *checked(void *memory);
+
+/* A walk over a sheet, with the lines that it has given. */
+typedef struct {
+    eas_walk walk;
+    char *text;
+    size_t length;
+} asked_walk;
+
+/* Begins a walk; makes a step, false where none was left; hands the states' names their lines. The sheet may grow
+ * between two steps. */
+asked_walk begin_walk(const asked_sheet *sheet);
+bool step_walk(asked_walk *w, const asked_sheet *sheet);
+void end_walk(asked_walk *w, asked_sheet *sheet);
+
+/* Asks for all names by every way but a walk; by every way. */
+void ask_names(asked_sheet *sheet);
+void ask_all(asked_sheet *sheet);
+
+/* A walk gives each state once, its name as written. */
+bool is_asked_by(const asked_name *name, way w);
 
 /* The name of a state has percent forms in its spelling; digits only. */
 bool has_signs(const named_state *s);

@@ -61,7 +61,7 @@ shown shown_by(const asked_name *name, way w) {
     const eas_answer *a = &name->answer;
     if (w == BY_SEARCH)
         return (shown){true, true, a->number, a->y, a->z, a->value};
-    return w == BY_PLOT ? read_mark(&name->mark) : read_line(w == BY_LINE ? &name->line : &name->listed);
+    return w == BY_PLOT ? read_mark(&name->mark) : read_line(&name->lines[w]);
 }
 
 /* ---- whether it is right */
@@ -97,8 +97,7 @@ static bool is_right(const asked_name *name, const named_state *s, way w) {
         return w == BY_PLOT && shows_right(&name->mark, s);
     if (w == BY_SEARCH)
         return !answers_differ(truth, &name->answer);
-    return w == BY_PLOT ? is_mark(&name->mark, truth)
-                        : is_line(name, w == BY_LINE ? &name->line : &name->listed, truth);
+    return w == BY_PLOT ? is_mark(&name->mark, truth) : is_line(name, &name->lines[w], truth);
 }
 
 /* ---- what is wrong */
@@ -150,8 +149,8 @@ static cause cause_of(const asked_sheet *sheet, const asked_name *name, way w) {
     const right_state *right = &state->right;
     if (name->differs[WITHOUT_REMARKS][w])
         return BY_REMARKS;
-    if (is_right(name, state, w))
-        return name->differs[CONVERTED][w] ? BY_CONVERSION : RIGHT;
+    if (!is_asked_by(name, w) || is_right(name, state, w))
+        return name->differs[CONVERTED][w] ? BY_CONVERSION : name->differs[GROWN][w] ? BY_ADDITION : RIGHT;
     if (name->absent)
         return FOUND_ABSENT;
     shown s = shown_by(name, w);
@@ -205,13 +204,21 @@ static unsigned places_by_value(const right_state *right) {
     return place_at_edge(right) | place_in_transition(right);
 }
 
+/* Whether a state's name is the number of a row that is there only where states are added. */
+static bool is_new_row(const asked_sheet *sheet, const named_state *s) {
+    uint64_t number = has_digits_only(sheet, s) ? number_in_name(sheet, s) : 0;
+    return number >= sheet->parsed.count && number <= sheet->parsed.count + ADDITIONS;
+}
+
 /* A fault that a check names goes to that check alone, any other to all that look at the state. */
-static unsigned charged_checks(const asked_name *name, unsigned looking, cause c) {
+static unsigned charged_checks(const asked_sheet *sheet, const asked_name *name, unsigned looking, cause c) {
     unsigned by_name = looking & (BIT(SIGNS) | BIT(DIGITS)), by_value = looking & ~by_name;
     if (c == BY_REMARKS || c == BY_CONVERSION)
         return BIT(SIGNS);
     if (name->absent)
         return BIT(name->as == ROW_NUMBER ? DIGITS : SIGNS);
+    if (c == BY_ADDITION)
+        return BIT(is_new_row(sheet, &sheet->states[name->state]) ? DIGITS : SIGNS);
     if (c == NOT_FOUND || c == ANOTHERS)
         return by_name ? by_name : BIT(OTHERS);
     if ((c == NEIGHBOURS || c == NOT_JOINED || c == END_DENSITIES) && by_value & BIT(EDGES))
@@ -226,7 +233,7 @@ static unsigned judge_name(const asked_sheet *sheet, const asked_name *name, cau
     unsigned charged = 0, looking = name->absent ? 0 : checks_of(sheet, &sheet->states[name->state]);
     for (way w = 0; w < WAYS; w++) {
         causes[w] = cause_of(sheet, name, w);
-        charged |= causes[w] == RIGHT ? 0 : charged_checks(name, looking, causes[w]);
+        charged |= causes[w] == RIGHT ? 0 : charged_checks(sheet, name, looking, causes[w]);
     }
     return charged;
 }
@@ -256,6 +263,8 @@ static bool is_misconverted(const asked_sheet *sheet) {
 void judge_sheet(const asked_sheet *sheet, tally tallies[TALLIES]) {
     if (is_misconverted(sheet) && !tallies[SIGNS].misconverted)
         tallies[SIGNS].misconverted = sheet;
+    if (sheet->addition.wrong && !tallies[SIGNS].misgrown)
+        tallies[SIGNS].misgrown = sheet;
     for (size_t i = 0; i < sheet->parsed.count; i++)
         look_at(sheet, &sheet->states[i], tallies);
     for (size_t i = 0; i < sheet->count; i++) {

@@ -31,6 +31,7 @@ typedef enum {
     RIGHT,
     BY_REMARKS,    /* it is another where the sheet's remarks are taken away */
     BY_CONVERSION, /* it is right, but another where the sheet is converted to its other version */
+    BY_ADDITION,   /* it is right, but another where states are added to the sheet */
     NOT_FOUND,     /* refused as a name that no state has, or missing from the run list */
     FOUND_ABSENT,  /* something is shown for a name that no state has */
     ANOTHERS,      /* another state's answer */
@@ -68,6 +69,7 @@ typedef struct {
     const asked_sheet *encoded_in; /* the first of `encoded` */
     const asked_name *encoded_name;
     const asked_sheet *misconverted; /* the first sheet whose conversion is wrong as a whole, else null */
+    const asked_sheet *misgrown;     /* the first to which a state is added wrongly, else null */
 } tally;
 
 /* Adds a sheet to the tallies. */

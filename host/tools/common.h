@@ -8,8 +8,12 @@
 
 #include "record.h"
 
-/* Opens an input; tells a failure and gives null. */
+/* Opens an input, or an output, which is empty then; tells a failure and gives null. */
 FILE *open_input(const char *path);
+FILE *open_output(const char *path);
+
+/* Ends an output; tells that something could not be written to it. 0 is success. */
+int close_output(FILE *file, const char *path);
 
 /* How messages call an input and an output. */
 const char *input_name(const char *path);

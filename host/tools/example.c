@@ -1,5 +1,6 @@
-/* example SHEET NAME...: a host program. It loads a sheet, searches each spelled name, asks for its remark, its plot
- * mark and its listing line, and prints what it got: a remark's control bytes, which may steer a terminal, as ?. */
+/* example SHEET [NAME]...: a host program. It loads a sheet, searches each spelled name, asks for its remark, its plot
+ * mark and its listing line, and prints what it got: a remark's control bytes, which may steer a terminal, as ?.
+ * Without a name it walks over the sheet and prints every line. */
 #include <ctype.h>
 #include <errno.h>
 #include <stdio.h>
@@ -7,8 +8,8 @@
 
 #include <airstate.h>
 
-#if !EAS_VERSION_AT_LEAST(2, 4, 0)
-#error "this program needs airstate 2.4.0 or later"
+#if !EAS_VERSION_AT_LEAST(2, 6, 0)
+#error "this program needs airstate 2.6.0 or later"
 #endif
 
 static uint8_t sheet[EAS_SHEET_ROOM + 1]; /* one byte more than the largest sheet, so that a longer file is refused */
@@ -70,11 +71,18 @@ static void print_state(size_t n, const char *spelled) {
     printf("  line: %.*s", (int)text.length, (const char *)line);
 }
 
+static void print_lines(size_t n) {
+    uint8_t line[EAS_LINE_ROOM];
+    eas_step step = {.walk = eas_begin(sheet, n).walk};
+    while ((step = eas_next(sheet, n, step.walk, line, sizeof line)).length > 0)
+        printf("%.*s", (int)step.length, (const char *)line);
+}
+
 int main(int argc, char **argv) {
     FILE *file = argc > 1 ? fopen(argv[1], "rb") : NULL;
     size_t n = file ? fread(sheet, 1, sizeof sheet, file) : 0;
     if (argc < 2) {
-        fprintf(stderr, "usage: example SHEET NAME...\n");
+        fprintf(stderr, "usage: example SHEET [NAME]...\n");
         return 2;
     }
     if (!file || ferror(file)) {
@@ -86,5 +94,7 @@ int main(int argc, char **argv) {
     printf("sheet: %u, %s\n", refused, eas_reason(refused));
     for (int i = 2; i < argc; i++)
         print_state(n, argv[i]);
+    if (argc == 2)
+        print_lines(n);
     return refused != 0;
 }

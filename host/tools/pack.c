@@ -5,16 +5,12 @@
 #include <stdarg.h>
 #include <stdlib.h>
 #include <string.h>
-#include <strings.h>
 
 #include "common.h"
-#include "decimal.h"
-#include "kinds.h"
+#include "fields.h"
 #include "options.h"
-#include "rows.h"
-#include "utf8.h"
 
-enum { COLUMNS = FIRST_GIVEN + GIVEN_COUNT, SHOWN = 60, TEXT_MOST = 1 << 26 };
+enum { COLUMNS = FIRST_GIVEN + GIVEN_COUNT, TEXT_MOST = 1 << 26 };
 
 const char *const headings[FIRST_GIVEN] = {"name", "spelled", "kind", "first", "density", "remark", "remark_spelled"};
 
@@ -54,28 +50,6 @@ __attribute__((format(printf, 3, 4))) static bool wrong(packing *p, const row *r
 
 static bool wrong_by(packing *p, const row *r, uint32_t number) {
     return wrong(p, r, "refusal %u: %s", number, eas_reason(number));
-}
-
-/* A field for a message: about SHOWN bytes, those that cannot be shown as question marks. */
-static const char *shown(field f) {
-    static char text[SHOWN + 8];
-    size_t used = 0;
-    while (used < f.length && used < SHOWN) {
-        const uint8_t *at = (const uint8_t *)f.text + used;
-        size_t length = utf8_first(at, f.length - used).length;
-        length = length > 0 ? length : 1;
-        if (is_text(at, length))
-            memcpy(text + used, at, length);
-        else
-            memset(text + used, '?', length);
-        used += length;
-    }
-    strcpy(text + used, used < f.length ? "…" : "");
-    return text;
-}
-
-static bool equals(field f, const char *word) {
-    return f.length == strlen(word) && !strncasecmp(f.text, word, f.length);
 }
 
 static const char *heading_of(int column) {
@@ -194,17 +168,6 @@ static bool read_entry_name(packing *p, const row *r, entry *e) {
     return true;
 }
 
-/* The kind that a field names, by its number or by what is wanted. */
-static const kind_row *named_kind(field f) {
-    uint64_t number;
-    if (read_decimal(f.text, f.length, 0, &number) == DECIMAL_READ)
-        return kind_of(number);
-    for (int i = 0; i < KIND_COUNT; i++)
-        if (equals(f, kinds[i].wanted->name))
-            return &kinds[i];
-    return NULL;
-}
-
 static bool has_both(const packing *p, const row *r, const kind_row *kind) {
     return cell(p, r, column_given(kind->first)).length > 0 &&
            (cell(p, r, column_given(kind->second)).length > 0 || cell(p, r, SECOND).length > 0);
@@ -243,22 +206,8 @@ static bool read_value(packing *p, const row *r, const quantity *q, int whole, u
     if (si.length == 0 && units_field.length == 0)
         return wrong(p, r, "the %s is missing", q->name);
     bool is_si = si.length > 0;
-    field f = is_si ? si : units_field;
-    const char *column = is_si ? q->heading : headings[whole];
-    char most[DECIMAL_ROOM];
-    switch (read_decimal(f.text, f.length, is_si ? q->decimals : 0, units)) {
-    case DECIMAL_READ:
-        return true;
-    case DECIMAL_WRONG:
-        return wrong(p, r, "%s: '%s' is no decimal number from 0 up, with a point before its decimals", column,
-                     shown(f));
-    case DECIMAL_TOO_FINE:
-        return wrong(p, r, "%s: '%s' has more digits than the unit of 1e-%u %s holds", column, shown(f), q->decimals,
-                     q->unit);
-    default:
-        write_decimal(most, UINT64_MAX, is_si ? q->decimals : 0);
-        return wrong(p, r, "%s: '%s' is over %s", column, shown(f), most);
-    }
+    const char *fault = read_quantity(is_si ? si : units_field, q, is_si, units);
+    return fault ? wrong(p, r, "%s: %s", is_si ? q->heading : headings[whole], fault) : true;
 }
 
 /* Reads a remark in percent form byte by byte, since the library reads no more than a name at once. */
@@ -291,15 +240,6 @@ static bool read_entry_remark(packing *p, const row *r, entry *e) {
     return true;
 }
 
-/* The line of the record whose name starts at a place of the sheet so far. */
-static unsigned long line_of(const packing *p, size_t start) {
-    size_t at = HEAD;
-    unsigned i = 0;
-    while (i + 1 < record_count(p->bytes) && next_state(p->bytes, &at).name != p->bytes + start)
-        i++;
-    return p->line[i];
-}
-
 /* Looks the name up in the sheet so far. */
 static bool is_new(packing *p, const row *r, const entry *e) {
     uint8_t spelled[SPELLED_MOST];
@@ -308,7 +248,7 @@ static bool is_new(packing *p, const row *r, const entry *e) {
     if (found.number == EAS_NAME_ABSENT)
         return true;
     return wrong(p, r, "refusal %u: %s, on line %lu", EAS_NAME_REPEATED, eas_reason(EAS_NAME_REPEATED),
-                 line_of(p, found.start));
+                 p->line[record_at(p->bytes, found.start)]);
 }
 
 /* The first remark makes every record longer. */

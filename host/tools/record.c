@@ -107,6 +107,14 @@ size_t put_with_remarks(uint8_t *to, const uint8_t *sheet, size_t length) {
     return n;
 }
 
+unsigned record_at(const uint8_t *sheet, size_t start) {
+    size_t at = HEAD;
+    unsigned i = 0;
+    while (i + 1 < record_count(sheet) && next_state(sheet, &at).name != sheet + start)
+        i++;
+    return i;
+}
+
 eas_answer search_state(const uint8_t *sheet, size_t n, const state *s) {
     return eas_search(sheet, n, (const uint8_t *)s->spelled, s->spelled_length);
 }

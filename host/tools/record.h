@@ -58,6 +58,9 @@ unsigned record_count(const uint8_t *sheet);
 /* The record at *at of an accepted sheet; *at moves past it and starts at HEAD. */
 state next_state(const uint8_t *sheet, size_t *at);
 
+/* Which record of an accepted sheet, from 0, has the name that starts at this place. */
+unsigned record_at(const uint8_t *sheet, size_t start);
+
 /* The library's answer for a state's spelled name. */
 eas_answer search_state(const uint8_t *sheet, size_t n, const state *s);
 

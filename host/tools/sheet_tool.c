@@ -1,7 +1,9 @@
-/* sheet_tool: a text of states to a sheet and back, and a sheet from one version to the other. */
+/* sheet_tool: a text of states to a sheet and back, a sheet from one version to the other, a state more, a listing. */
 #include <string.h>
 
+#include "add.h"
 #include "convert.h"
+#include "list.h"
 #include "options.h"
 #include "pack.h"
 
@@ -18,11 +20,15 @@ static const tool description = {
     "pack [-o FILE.eas] [FILE.csv]\n"
     "unpack [-o FILE.csv] [--si] [--spelled] [FILE.eas]\n"
     "forward [-o FILE.eas] [FILE.eas]\n"
-    "back [-o FILE.eas] [FILE.eas]",
+    "back [-o FILE.eas] [FILE.eas]\n"
+    "add [-o FILE.eas] NAME KIND FIRST DENSITY [FILE.eas]\n"
+    "list [-o FILE.txt] [FILE.eas]",
     "Packs a CSV text of states into a sheet, writes a sheet as text, or converts a sheet:\n"
     "forward writes one of version 1 in version 2 with empty remarks, back writes one of\n"
-    "version 2 without remarks in version 1, for older copies. A file of - or none is\n"
-    "standard input. The text's first row names its columns:\n"
+    "version 2 without remarks in version 1, for older copies. add puts one state behind\n"
+    "those of a sheet of version 2: NAME with %2F for / and the like, KIND as the column kind\n"
+    "has it, FIRST in Pa or J/kg and DENSITY in kg/m³. list writes the listing line of every\n"
+    "state. A file of - or none is standard input. The text's first row names its columns:\n"
     "  name            the name as it is, or\n"
     "  spelled         the name with %2F for / and the like\n"
     "  pressure_Pa     with density_kg_m3: temperature is wanted (kind 1)\n"
@@ -37,21 +43,42 @@ static const tool description = {
     options,
 };
 
-int main(int argc, char **argv) {
-    int at = read_options(&description, argc, argv);
-    if (at == argc)
-        misuse("pack, unpack, forward or back must be said");
-    if (argc - at > 2)
-        misuse("one file at a time: %s is too much", argv[at + 2]);
-    const char *verb = argv[at], *input = at + 1 < argc ? argv[at + 1] : NULL;
-    bool forward = !strcmp(verb, "forward"), back = !strcmp(verb, "back");
-    if (!strcmp(verb, "unpack"))
+enum { PACK, UNPACK, FORWARD, BACK, ADD, LIST, VERBS, STATE_OPERANDS = 4 };
+
+static const char *const verbs[VERBS] = {"pack", "unpack", "forward", "back", "add", "list"};
+
+/* Does what the verb says with a file and, for add, the operands before it. */
+static int run(int verb, char **operands, const char *input) {
+    switch (verb) {
+    case PACK:
+        return pack(input, output);
+    case UNPACK:
         return unpack(input, output, si, spelled);
-    if (strcmp(verb, "pack") && !forward && !back)
-        misuse("'%s' is none of pack, unpack, forward and back", verb);
-    if (si || spelled)
+    case FORWARD:
+        return convert(input, output, eas_forward);
+    case BACK:
+        return convert(input, output, eas_back);
+    case ADD:
+        return add(input, output, &(state_words){operands[0], operands[1], operands[2], operands[3]});
+    default:
+        return list(input, output);
+    }
+}
+
+int main(int argc, char **argv) {
+    int at = read_options(&description, argc, argv), verb = 0;
+    if (at == argc)
+        misuse("pack, unpack, forward, back, add or list must be said");
+    while (verb < VERBS && strcmp(argv[at], verbs[verb]))
+        verb++;
+    if (verb == VERBS)
+        misuse("'%s' is none of pack, unpack, forward, back, add and list", argv[at]);
+    if ((si || spelled) && verb != UNPACK)
         misuse("--si and --spelled belong to unpack");
-    if (forward || back)
-        return convert(input, output, forward ? eas_forward : eas_back);
-    return pack(input, output);
+    int file = at + 1 + (verb == ADD ? STATE_OPERANDS : 0);
+    if (file > argc)
+        misuse("add takes a name, a kind, a first value and a density");
+    if (file + 1 < argc)
+        misuse("one file at a time: %s is too much", argv[file + 1]);
+    return run(verb, argv + at + 1, file < argc ? argv[file] : NULL);
 }

@@ -1,21 +1,20 @@
 -- Request 6 over what C gets: a converted sheet has the page of the sheet.
 use mathlib.Core.List.{List}
-use mathlib.Core.Path.{_≡_, refl, sym, ap, _∙_, subst}
+use mathlib.Core.Path.{_≡_, refl}
 use Prim.Native.Nat.{ℕ, _≤_}
 use native.Mathlib.Omega.{arith}
-use lib.ListN.{length, take, drop}
-use lib.Seq.{take-at}
-use Rattle.octets.specs.Room.{Text, refused, text, written, outcomeOf}
+use lib.ListN.{length}
+use Rattle.octets.specs.Room.{Text, refused, text}
 use Rattle.name.specs.Name.{nameOf}
 use Rattle.sheet_record.specs.declared.Record.{Record}
-use Rattle.sheet.specs.Sheet.{records, sheetOf}
+use Rattle.sheet.specs.Sheet.{records, sheetOf, recordsOf}
 use Rattle.sheet_search.specs.declared.Lookup.{Lookup}
 use Rattle.sheet_search.specs.declared.Lookup.the-variants.{Hit, Miss}
 use Rattle.sheet_search.specs.Find.{findIn}
 use Rattle.sheet_search.proofs.Pages.{replyOf}
 use Rattle.sheet_search.proofs.Searching.{Finding, hit, finding}
 use Rattle.sheet_remark.specs.Remark.{remarkOf}
-use Rattle.convert_records.specs.Records.{bare, recordsOf}
+use Rattle.convert_records.specs.Records.{bare}
 use Rattle.convert.specs.Convert.{forward, back}
 use Rattle.convert.specs.BackAnswer.{NoRemark}
 use Rattle.convert.specs.ForwardAnswer
@@ -28,10 +27,10 @@ use Rattle.convert.proofs.Exactly.{none-remarked, forward-exactly, back-exactly
 use Rattle.calculator.specs.Search.{locateName, locate}
 use Rattle.calculator.proofs.Remarks.{same-answers}
 use Rattle.calculator.proofs.Replies.{same-reply}
-use Rattle.flat_parts.specs.declared.CText.{CText}
-use Rattle.flat_parts.specs.Flat.{flatRemark, flatText}
+use Rattle.flat_parts.specs.Flat.{flatRemark}
 use Rattle.airstate.specs.Converted.{Kept, KeptBy, FlatForward, FlatBack}
 use Rattle.airstate.proofs.Remarks.{same-for-c}
+use Rattle.airstate.proofs.Rooms.{in-room}
 
 -- what a search finds in a sheet without a remark has none
 module _ (s : List ℕ) (rs : List Record) (e : sheetOf s ≡ records rs) (n : NoRemark s rs) where
@@ -76,17 +75,8 @@ kept k j other s t h r =
 -- a way that refuses by no 0 and keeps each sheet keeps those that C gets
 by-room : (way other : List ℕ → ℕ → Text) → ((s : List ℕ) (room : ℕ) → way s room ≡ refused 0 → ⊥)
     → ((s t : List ℕ) (room : ℕ) → way s room ≡ text t → Kept other s t) → KeptBy way other
-unfolding flatText
-by-room way other never each s room last c e l z = go (way s (length room)) refl e l
-  where
-    go : (x : Text) → way s (length room) ≡ x → c ≡ flatText (outcomeOf x) → last ≡ written x room → Kept other s (take (c .length) last)
-    go (refused k) p f h =
-        let n : k ≡ 0 = sym (ap (λ (y : CText). y .number) f) ∙ z in
-        absurd (never s (length room) (p ∙ ap refused n))
-    go (text t) p f h =
-        let n : c .length ≡ length t = ap (λ (y : CText). y .length) f in
-        let is : take (c .length) last ≡ t = ap (take (c .length)) h ∙ take-at t (drop (length t) room) (c .length) (sym n) in
-        subst (Kept other s) (sym is) (each s t (length room) p)
+by-room way other never each s room last c e l z =
+    in-room {P = Kept other s} (way s (length room)) (never s (length room)) (λ t p. each s t (length room) p) room last c e l z
 
 forward-never : (s : List ℕ) (room : ℕ) → forward s room ≡ refused 0 → ⊥
 forward-never s room e = go (forward s room) (forward-exactly s room) e

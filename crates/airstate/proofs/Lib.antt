@@ -3,3 +3,5 @@ pub mod Remarks
 pub mod Converted
 pub mod Allowed
 pub mod Demand3
+pub mod Rooms
+pub mod Growing

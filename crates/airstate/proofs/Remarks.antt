@@ -24,6 +24,7 @@ use Rattle.calculator.proofs.Located.{locate-inside}
 use Rattle.calculator.proofs.Remarks.{same-answers}
 use Rattle.calculator.proofs.Replies.{same-reply}
 use Rattle.report.proofs.Alike.{same-listing}
+use Rattle.walk.proofs.Pages.{same-begun, same-stepped}
 use Rattle.flat.specs.Flat.{flat}
 use Rattle.flat_parts.specs.declared.CRecord.{CRecord}
 use Rattle.flat_parts.specs.Flat.{flatFound, flatRemark, flatMark}
@@ -60,6 +61,8 @@ same-for-c s t e =
       plot = λ spelling. ap (λ (h : Held). flatMark (markOf h)) (a .search chosen spelling);
       line = λ room spelling. ap (λ (h : Held). fitting room (line spelling h)) (a .search chosen spelling);
       list = λ room names. ap (fitting room) (same-listing chosen s t (a .search chosen) (a .number) names);
+      begin = same-begun s t e;
+      next = same-stepped s t e chosen;
     }
 
 pub flat-remarks-aside : FlatRemarksAside

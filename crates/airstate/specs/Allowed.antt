@@ -10,6 +10,10 @@ use Rattle.mark.specs.Mark.{markOf}
 use Rattle.calculator.specs.Search.{IsSearch}
 use Rattle.line.specs.Line.{line}
 use Rattle.report.specs.Listing.{IsListing}
+use Rattle.walk.specs.declared.Walk.{Walk}
+use Rattle.walk.specs.declared.Step.{Step}
+use Rattle.walk.specs.Walk.{stepOf}
+use Rattle.walk.specs.Allowed.{IsStep}
 use Rattle.flat.specs.declared.CAnswer.{CAnswer}
 use Rattle.flat_parts.specs.declared.CMark.{CMark}
 use Rattle.flat_parts.specs.declared.CText.{CText}
@@ -46,3 +50,10 @@ IsFlatLine sheet spelling room last c = InRoom (MadeOf (IsSearch sheet spelling)
 
 abbrev pub IsFlatListing : List ℕ → List ℕ → List ℕ → List ℕ → CText → Type 0
 IsFlatListing sheet names room last c = InRoom (MadeOf (IsListing sheet names) (fitting (length room))) room last c
+
+-- a step of a walk: what is told, and the room afterwards, by a text that is allowed
+pub record IsFlatStep (s : List ℕ) (w : Walk) (room last : List ℕ) (r : Step) : Type 0 where
+  pub text : Text
+  pub allowed : IsStep s w (length room) text
+  pub is : r ≡ stepOf w text
+  pub holds : last ≡ written text room

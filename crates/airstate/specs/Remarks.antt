@@ -15,6 +15,8 @@ use Rattle.sheet_search.specs.declared.Lookup.the-variants.{Hit}
 use Rattle.sheet_remark.specs.Remark.{remarkOf}
 use Rattle.sheet_walk.specs.Records.{recordOf}
 use Rattle.calculator.specs.Search.{locate, searchBy}
+use Rattle.walk.specs.declared.Walk.{Walk}
+use Rattle.walk.specs.Walk.{begunBy, stepped}
 use Rattle.flat.specs.Flat.{flat}
 use Rattle.flat_parts.specs.declared.CRecord.{CRecord}
 use Rattle.flat_parts.specs.Flat.{flatFound, flatRemark, flatMark}
@@ -29,7 +31,8 @@ pub record SameRecord (s t : List ℕ) (a b : CRecord) : Type 0 where
   pub fields : placeless a ≡ placeless b
   pub name : part s (a .start) (a .length) ≡ part t (b .start) (b .length)
 
--- what `eas_check`, `eas_find`, `eas_record_at`, `eas_search`, `eas_plot`, `eas_line` and `eas_list` give for either sheet
+-- what `eas_check`, `eas_find`, `eas_record_at`, `eas_search`, `eas_plot`, `eas_line`, `eas_list`, `eas_begin` and `eas_next` give for
+-- either sheet
 pub record SameForC (s t : List ℕ) : Type 0 where
   pub check : numberOf (sheetOf s) ≡ numberOf (sheetOf t)
   pub find : (spelling : List ℕ) → SameRecord s t (flatFound (locate s spelling)) (flatFound (locate t spelling))
@@ -38,6 +41,8 @@ pub record SameForC (s t : List ℕ) : Type 0 where
   pub plot : (spelling : List ℕ) → flatMark (markOf (searchBy chosen s spelling)) ≡ flatMark (markOf (searchBy chosen t spelling))
   pub line : (room : ℕ) (spelling : List ℕ) → lineIn room s spelling ≡ lineIn room t spelling
   pub list : (room : ℕ) (names : List ℕ) → listingIn room s names ≡ listingIn room t names
+  pub begin : begunBy (sheetOf s) ≡ begunBy (sheetOf t)
+  pub next : (w : Walk) (room : ℕ) → stepped chosen s w room ≡ stepped chosen t w room
 
 abbrev pub FlatRemarksAside : Type 0
 FlatRemarksAside = (s t : List ℕ) → DifferInRemarks s t → SameForC s t

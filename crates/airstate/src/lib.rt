@@ -5,6 +5,9 @@ use flat_parts::CMark;
 use flat_parts::CPart;
 use flat_parts::CRecord;
 use flat_parts::CText;
+use walk::Begun;
+use walk::Step;
+use walk::Walk;
 ghost use mathlib.Core.Path.{_≡_};
 ghost use Prim.Native.Nat.{_+_, _≤_};
 ghost use lib.ListN.{length};
@@ -16,11 +19,13 @@ ghost use Rattle.sheet_walk.specs.Records.{recordOf};
 ghost use Rattle.air.specs.Choices.{chosen};
 ghost use Rattle.air.specs.State.{answerBy};
 ghost use Rattle.convert.specs.Convert.{forward, back};
+ghost use Rattle.append.specs.Add.{added};
+ghost use Rattle.walk.specs.Walk.{begunBy, stepped, stepOf};
 ghost use Rattle.mark.specs.Mark.{markOf};
 ghost use Rattle.calculator.specs.Search.{locate, searchBy};
 ghost use Rattle.flat.specs.Flat.{flat};
 ghost use Rattle.flat_parts.specs.Flat.{flatFound, flatRemark, flatText, flatMark};
-ghost use Rattle.airstate.specs.Allowed.{IsFlatSearch, IsFlatAnswer, IsFlatMark, IsFlatLine, IsFlatListing};
+ghost use Rattle.airstate.specs.Allowed.{IsFlatSearch, IsFlatAnswer, IsFlatMark, IsFlatLine, IsFlatListing, IsFlatStep};
 ghost use Rattle.name_room.specs.Read.{readIn};
 ghost use Rattle.airstate.specs.Texts.{lineIn, listingIn};
 
@@ -141,4 +146,38 @@ pub extern "C" fn eas_back(sheet: &[u8], out: &mut [u8]) -> CText
     ensures { λ _. ⌜ now (out .exit) ≡ written (back (now (sheet .entry)) (length (now (out .entry)))) (now (out .entry)) ⌝ }
 {
     flat_parts::flatten_text(convert::back(sheet, out))
+}
+
+// A walk over the records that a sheet has now.
+#[no_mangle]
+pub extern "C" fn eas_begin(sheet: &[u8]) -> Begun
+    ensures { λ r. ⌜ r ≡ begunBy (sheetOf (now (sheet .entry))) ⌝ }
+{
+    walk::begin(sheet)
+}
+
+// The listing line of a walk's next record, in lent room, and the walk after it. That no add disturbs it is `FlatUndisturbed` (specs/Growing).
+#[no_mangle]
+pub extern "C" fn eas_next(sheet: &[u8], walk: Walk, out: &mut [u8]) -> Step
+    ensures { λ r. ⌜ r ≡ stepOf walk (stepped chosen (now (sheet .entry)) walk (length (now (out .entry)))) ⌝ }
+    ensures { λ _. ⌜ now (out .exit) ≡ written (stepped chosen (now (sheet .entry)) walk (length (now (out .entry)))) (now (out .entry)) ⌝ }
+    ensures { λ r. ⌜ IsFlatStep (now (sheet .entry)) walk (now (out .entry)) (now (out .exit)) r ⌝ }
+{
+    walk::take_step(sheet, walk, out)
+}
+
+// A sheet of version 2 with one state more, in lent room. What is kept of the sheet is `FlatAdd` (specs/Growing).
+#[no_mangle]
+pub extern "C" fn eas_add(
+    sheet: &[u8],
+    spelled: &[u8],
+    kind: u32,
+    first: u64,
+    second: u64,
+    out: &mut [u8],
+) -> CText
+    ensures { λ r. ⌜ r ≡ flatText (outcomeOf (added (now (sheet .entry)) (now (spelled .entry)) kind first second (length (now (out .entry))))) ⌝ }
+    ensures { λ _. ⌜ now (out .exit) ≡ written (added (now (sheet .entry)) (now (spelled .entry)) kind first second (length (now (out .entry)))) (now (out .entry)) ⌝ }
+{
+    flat_parts::flatten_text(append::add(sheet, spelled, kind, first, second, out))
 }

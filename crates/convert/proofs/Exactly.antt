@@ -10,17 +10,18 @@ use lib.Dec.{ltb, eqb}
 use lib.ListN.{length}
 use Rattle.octets.proofs.Told.{fits, short}
 use Rattle.sheet_record.specs.declared.Record.{Record}
-use Rattle.sheet.specs.Sheet.{records, sheetOf, numberOf}
+use Rattle.sheet.specs.Sheet.{records, sheetOf, numberOf, recordsOf}
 use Rattle.sheet_version.specs.Version.{sheetIn}
+use Rattle.sheet_version.proofs.Version.{read-in, in-read, count-read}
 use Rattle.sheet_remark.specs.Remark.{remarkIn}
-use Rattle.convert_records.specs.Records.{sheetAs, bare, recordsOf}
+use Rattle.convert_records.specs.Records.{sheetAs, bare}
 use Rattle.convert.specs.Convert.{forward, back}
 use Rattle.convert.specs.ForwardAnswer
 use Rattle.convert.specs.ForwardAnswer.{ForwardAnswer, ForwardExactly, ForwardRefuses}
 use Rattle.convert.specs.BackAnswer
 use Rattle.convert.specs.BackAnswer.{BackAnswer, NoRemark, BackExactly, BackRefuses}
 use Rattle.convert.proofs.Paired.{and-true}
-use Rattle.convert.proofs.Texts.{read-in, in-read, count-read, forward-length, back-length, forward-own, forward-long, forward-fitting, back-own, back-remarked, back-fitting}
+use Rattle.convert.proofs.Texts.{forward-length, back-length, forward-own, forward-long, forward-fitting, back-own, back-remarked, back-fitting}
 
 -- forward, the result is longer by the records that are read
 forward-count : (s : List ℕ) {rs : List Record} → sheetIn 1 s ≡ records rs → length (sheetAs 2 s (recordsOf (sheetOf s))) ≡ length s + length rs

@@ -11,17 +11,17 @@ use Rattle.octets.specs.Room.{refused, text, fitting}
 use Rattle.octets.proofs.Told.{fits}
 use Rattle.sheet_record.specs.declared.Record.{Record}
 use Rattle.sheet.specs.Sheet
-use Rattle.sheet.specs.Sheet.{Sheet, records, sheetOf, numberOf}
+use Rattle.sheet.specs.Sheet.{Sheet, records, sheetOf, numberOf, recordsOf}
 use Rattle.sheet.proofs.Entries.{Entry, saidBy, said}
 use Rattle.sheet_version.specs.Version.{sheetIn}
-use Rattle.sheet_version.proofs.Version.{in-same, in-version}
+use Rattle.sheet_version.proofs.Version.{in-same, in-version, read-in, in-read, most-read}
 use Rattle.sheet_search.proofs.Pages.{with, pageOf}
-use Rattle.convert_records.specs.Records.{sheetAs, bare, recordsOf}
+use Rattle.convert_records.specs.Records.{sheetAs, bare}
 use Rattle.convert.specs.Convert.{forwardBy, forward, backBy, back}
 use Rattle.convert.specs.Laws.{ForwardThenBack, BackThenForward, SameRecords, none, more, Converted, ForwardConverts, BackConverts}
 use Rattle.convert.proofs.Paired.{Version, one, two}
 use Rattle.convert.proofs.Sheets.{same-page, to-number, to-bare, to-back}
-use Rattle.convert.proofs.Texts.{read-in, in-read, least-read, one-bare, back-length, forward-fitting, back-fitting}
+use Rattle.convert.proofs.Texts.{one-bare, back-length, forward-fitting, back-fitting}
 
 -- t is what an accepted sheet s of version v without a remark is in version w
 pub record Turned (v w : ℕ) (s t : List ℕ) : Type 0 where
@@ -39,7 +39,7 @@ turned-back {v} {w} k j s t h =
       accepted = to-number k j s (h .accepted) (h .bare) m;
       bare = to-bare k j s (h .accepted) (h .bare) m;
       is = to-back k j s (h .accepted) (h .bare) m;
-      most = least-read v s (h .accepted) .1;
+      most = most-read v s (h .accepted);
     })
 
 pub turned-page : {v w : ℕ} → Version v → Version w → (s t : List ℕ) → Turned v w s t → pageOf s (sheetOf s) ≡ pageOf t (sheetOf t)
@@ -97,7 +97,7 @@ back-turned s t room e = go (sheetIn 2 s) refl e
           accepted = i .0;
           bare = b;
           is = f;
-          most = omega (arith, ap length f, back-length s (i .0) b, least-read 2 s (i .0) .1);
+          most = omega (arith, ap length f, back-length s (i .0) b, most-read 2 s (i .0));
         }
 
     go : (x : Sheet) → sheetIn 2 s ≡ x → backBy x s room ≡ text t → Turned 2 1 s t

@@ -3,7 +3,7 @@ use mathlib.Core.Bool.{Bool, true, false, cond, _&&_}
 use mathlib.Core.List.{List, [], _∷_, _++_}
 use mathlib.Core.Option.{none, some}
 use mathlib.Core.Path.{_≡_, refl, sym, ap, ap₂, _∙_}
-use Prim.Native.Nat.{ℕ, zero, suc, _+_, _-_, _≤_}
+use Prim.Native.Nat.{ℕ, zero, suc, _+_, _-_}
 use native.Mathlib.Omega.{arith}
 use borrow.Author.Tests.{eqb-true, eq-eqb}
 use lib.Dec.{eqb, leb}
@@ -48,11 +48,6 @@ flip (more n body l p) = more n body l (flip p)
 pub pair-length : {m : ℕ} {u x : List ℕ} → Paired 1 2 m u x → length x ≡ length u + m
 pair-length done = refl
 pair-length (more {m} {u} {x} n body l p) = omega (arith, length-append body u, length-append body (0 ∷ x), pair-length p)
-
--- a record has more than a byte
-pub pair-many : {v w m : ℕ} {u x : List ℕ} → Paired v w m u x → m ≤ length u
-pair-many done = omega arith
-pair-many {v} (more {m} {u} n body l p) = omega (arith, length-append body (emptyRemark v ++ u), length-append (emptyRemark v) u, pair-many p)
 
 -- an empty remark is a whole tail
 empty-tail : {v : ℕ} → Version v → (u : List ℕ) → layout v .tail (emptyRemark v ++ u) ≡ some (length (emptyRemark v))
@@ -214,14 +209,3 @@ returned {v} k s y at (more {m} {u} {x} n body l p) e h =
       bare = no-remark s at m i k y n body x l e ∙ r .bare;
       same = returned-step s at m i k y n body x l e v u (r .same);
     }
-
--- as many records as are announced
-none-counted : (s : List ℕ) (at : ℕ) → length (recordsFrom (layoutIn s) s 0 at) ≡ 0
-unfolding recordsFrom
-none-counted s at = refl
-
-pub counted : (s : List ℕ) (m at : ℕ) → faultFrom (layoutIn s) s m at ≡ 0 → length (recordsFrom (layoutIn s) s m at) ≡ m
-counted s zero at e = none-counted s at
-counted s (suc m) at e =
-    let h : Next (layoutIn s) s at (suc m) = next (layoutIn s) s at (suc m) (omega arith) e in
-    ap length (records-are s at m h) ∙ ap suc (counted s m (past at (h .fields)) (fault-is s at m h))

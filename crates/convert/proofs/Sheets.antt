@@ -13,13 +13,13 @@ use Rattle.sheet_record.specs.Layout.{layoutIn, layoutOf, orPlain}
 use Rattle.sheet_record.proofs.Tails.{version-is}
 use Rattle.sheet_head.specs.Head.{isMarked, versionFault, headFault}
 use Rattle.sheet_head.proofs.Head.{mark-bytes}
-use Rattle.sheet.specs.Sheet.{sheetOf, numberOf, Accepted}
+use Rattle.sheet.specs.Sheet.{sheetOf, numberOf, Accepted, recordsOf}
 use Rattle.sheet.proofs.Accept.{headed, accepted-head}
 use Rattle.sheet.proofs.Entries.{entriesFrom}
 use Rattle.sheet_version.specs.Version.{sheetIn}
 use Rattle.sheet_version.proofs.Version.{in-same, in-version}
 use Rattle.sheet_search.proofs.Pages.{pageOf, pageBy, page-behind, pageNumber, number-page}
-use Rattle.convert_records.specs.Records.{recordsAs, headerAs, sheetAs, bare, recordsOf}
+use Rattle.convert_records.specs.Records.{recordsAs, headerAs, sheetAs, bare}
 use Rattle.convert_records.proofs.Turns.{reading, count-bytes}
 use Rattle.convert.proofs.Paired.{Version, one, two, layout, Paired, and-true, pair, pair-entries, Returned, returned}
 

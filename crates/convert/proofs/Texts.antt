@@ -13,37 +13,14 @@ use Rattle.sheet_record.specs.Layout.{Layout, layoutIn, layoutOf, orPlain, plai
 use Rattle.sheet_record.specs.Front.{valuesEnd}
 use Rattle.sheet_record.specs.declared.Record.{Record}
 use Rattle.sheet.specs.Sheet
-use Rattle.sheet.specs.Sheet.{Sheet, records, sheetOf, numberOf}
-use Rattle.sheet.proofs.Accept.{headed, accepted-head, accepted-is}
+use Rattle.sheet.specs.Sheet.{Sheet, records, sheetOf, numberOf, recordsOf}
 use Rattle.sheet_version.specs.Version.{sheetIn}
-use Rattle.sheet_version.proofs.Version.{in-same, in-version}
+use Rattle.sheet_version.proofs.Version.{in-version, read-in}
 use Rattle.sheet_remark.specs.Remark.{remarkAt}
-use Rattle.convert_records.specs.Records.{sheetAs, bare, recordsOf}
-use Rattle.convert_records.proofs.Turns.{reading}
+use Rattle.convert_records.specs.Records.{sheetAs, bare}
 use Rattle.convert.specs.Convert.{forwardBy, forward, backBy, back}
-use Rattle.convert.proofs.Paired.{one, two, flip, pair-length, pair-many, counted}
+use Rattle.convert.proofs.Paired.{one, two, flip, pair-length}
 use Rattle.convert.proofs.Sheets.{sheets-paired, from-length, to-length, count-is}
-
--- the records of a sheet that is accepted as one of a version
-module _ (v : ℕ) (s : List ℕ) where
-  pub read-in : numberOf (sheetIn v s) ≡ 0 → sheetIn v s ≡ records (recordsOf (sheetOf s))
-  read-in a =
-      let i = in-version v s a in
-      let e : sheetOf s ≡ records (recordsOf (sheetOf s)) = accepted-is s (i .1) ∙ ap (λ (x : Sheet). records (recordsOf x)) (sym (accepted-is s (i .1))) in
-      in-same v s (i .0) ∙ e
-
-  pub in-read : {rs : List Record} → sheetIn v s ≡ records rs → (numberOf (sheetIn v s) ≡ 0) × (recordsOf (sheetOf s) ≡ rs)
-  in-read {rs} e =
-      let a : numberOf (sheetIn v s) ≡ 0 = ap numberOf e in
-      (a, ap recordsOf (sym (in-same v s (in-version v s a .0)) ∙ e))
-
-  pub count-read : numberOf (sheetIn v s) ≡ 0 → length (recordsOf (sheetOf s)) ≡ numberAt 2 s 5
-  count-read a =
-      let r = reading s (numberAt 2 s 5) (in-version v s a .1) refl in
-      ap length (r .records-are) ∙ counted s (numberAt 2 s 5) 7 (r .fault)
-
-  pub least-read : numberOf (sheetIn v s) ≡ 0 → (7 ≤ length s) × (length s ≤ 65536)
-  least-read a = let h = headed s (accepted-head s (in-version v s a .1)) in (h .least, h .most)
 
 -- version 1 has no remarks
 plain-bare : (s : List ℕ) → layoutIn s ≡ plainLayout → (rs : List Record) → bare s rs ≡ true
@@ -60,11 +37,6 @@ pub forward-length : (s : List ℕ) → numberOf (sheetIn 1 s) ≡ 0 → length 
 forward-length s a =
     let b = one-bare s a in
     omega (arith, pair-length (sheets-paired one two s a b), from-length one two s a b, to-length one two s a b, count-is one two s a b)
-
-pub forward-many : (s : List ℕ) → numberOf (sheetIn 1 s) ≡ 0 → numberAt 2 s 5 ≤ length s
-forward-many s a =
-    let b = one-bare s a in
-    omega (arith, pair-many (sheets-paired one two s a b), from-length one two s a b, count-is one two s a b)
 
 -- back takes one
 pub back-length : (s : List ℕ) → numberOf (sheetIn 2 s) ≡ 0 → bare s (recordsOf (sheetOf s)) ≡ true

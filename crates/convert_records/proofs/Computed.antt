@@ -7,9 +7,9 @@ use lib.ListN.{length}
 use Rattle.octets.specs.Bytes.{numberAt, after}
 use Rattle.sheet_record.specs.Layout.{layoutIn}
 use Rattle.sheet_record.specs.Front.{frontOf}
-use Rattle.sheet.specs.Sheet.{sheetBy, walk, sheetOf}
+use Rattle.sheet.specs.Sheet.{sheetBy, walk, sheetOf, recordsOf}
 use Rattle.sheet.proofs.Computed.{sheetWith, recordWith}
-use Rattle.convert_records.specs.Records.{recordsAs, sheetAs, bare, recordsOf}
+use Rattle.convert_records.specs.Records.{recordsAs, sheetAs, bare}
 
 -- the states a and b in version 2, with a remark of each, and both in version 1
 abbrev pub withRemarks : List ℕ → List ℕ → List ℕ

@@ -17,12 +17,12 @@ use Rattle.sheet_record.specs.Layout.{layoutIn}
 use Rattle.sheet_record.specs.Front.{Fields, recordAt, past, valuesEnd}
 use Rattle.sheet_record.specs.declared.Record.{Record}
 use Rattle.sheet_record.proofs.Places.{Sound}
-use Rattle.sheet.specs.Sheet.{sheetOf, Accepted}
+use Rattle.sheet.specs.Sheet.{sheetOf, Accepted, recordsOf}
 use Rattle.sheet.specs.Structure.{faultFrom}
 use Rattle.sheet.proofs.Accept.{headed, accepted-head, accepted-fault, accepted-is}
 use Rattle.sheet.proofs.Walk.{recordsFrom}
 use Rattle.sheet_remark.specs.Remark.{remarkAt, remarkIn}
-use Rattle.convert_records.specs.Records.{emptyRemark, recordFrom, recordsAs, headerAs, bare, recordsOf}
+use Rattle.convert_records.specs.Records.{emptyRemark, recordFrom, recordsAs, headerAs, bare}
 use Rattle.convert_records.proofs.Next.{Next, bytes-are}
 
 -- the records of an accepted sheet are those from its header on, and nothing ends their reading

@@ -6,7 +6,6 @@ use lib.Dec.{eqb}
 use lib.ListN.{getD}
 use Rattle.octets.specs.Bytes.{part}
 use Rattle.sheet_record.specs.declared.Record.{Record}
-use Rattle.sheet.specs.Sheet.{Sheet, refused, records}
 use Rattle.sheet_remark.specs.Remark.{remarkIn}
 
 -- an empty remark: in version 2 a length byte of 0, in version 1 nothing
@@ -38,8 +37,3 @@ sheetAs version s rs = headerAs version s ++ recordsAs version s rs
 unfoldable pub bare : List ℕ → List Record → Bool
 bare s [] = true
 bare s (r ∷ rs) = eqb (remarkIn s r .len) 0 && bare s rs
-
--- the records of a sheet; none where it is refused
-abbrev pub recordsOf : Sheet → List Record
-recordsOf (refused n) = []
-recordsOf (records rs) = rs

@@ -7,8 +7,8 @@ ghost use Prim.Native.Nat.{_+_, _≤_};
 ghost use lib.ListN.{length, getD, drop};
 ghost use Rattle.octets.specs.Bytes.{numberAt};
 ghost use Rattle.octets.specs.Room.{fitting, written, putAt, outcomeOf};
-ghost use Rattle.sheet.specs.Sheet.{sheetOf, Accepted};
-ghost use Rattle.convert_records.specs.Records.{emptyRemark, recordsAs, headerAs, sheetAs, bare, recordsOf, recordFrom};
+ghost use Rattle.sheet.specs.Sheet.{sheetOf, Accepted, recordsOf};
+ghost use Rattle.convert_records.specs.Records.{emptyRemark, recordsAs, headerAs, sheetAs, bare, recordFrom};
 
 // How many bytes an empty remark has in a version.
 fn empty_length(version: u8) -> usize

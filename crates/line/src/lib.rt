@@ -3,11 +3,13 @@ use air::Answer;
 use octets::Outcome;
 ghost use mathlib.Core.Path.{_≡_};
 ghost use Prim.Native.Nat.{_+_, _≤_};
-ghost use lib.ListN.{length};
+ghost use mathlib.Core.Bool.{true};
+ghost use lib.ListN.{length, take};
 ghost use mathlib.Core.List.{[], _∷_};
 ghost use lib.Seq.{sets};
 ghost use Rattle.air.specs.Held.{held};
-ghost use Rattle.name.specs.Name.{nameOf};
+ghost use Rattle.name.specs.Name.{isLength, nameOf};
+ghost use Rattle.name.specs.Spelling.{spelled};
 ghost use Rattle.line.specs.Line.{shownName, valueRest, refusalRest, lineOf, line, shownHeld, lineHeld, lengthOf};
 
 // A line: its text, then zeros, and the length of the text.
@@ -41,6 +43,20 @@ fn unreadable() -> Shown
     Shown { bytes, len: 1 }
 }
 
+// A name as a line shows it: its written spelling.
+fn show_name(name: &[u8]) -> Shown
+    requires { ⌜ isLength (length (now name)) ≡ true ⌝ }
+    ensures { λ r. ⌜ r ≡ shownHeld (spelled (now (name .entry))) ⌝ }
+{
+    let text = name_writer::spelling(name);
+    let bytes = text.bytes;
+    let outcome = text.outcome;
+    Shown {
+        bytes,
+        len: length_of(outcome),
+    }
+}
+
 // The name that a spelling reads to, as a line shows it.
 fn show(spelled: &[u8]) -> Shown
     ensures { λ r. ⌜ r ≡ shownHeld (shownName (nameOf (now (spelled .entry)))) ⌝ }
@@ -50,15 +66,7 @@ fn show(spelled: &[u8]) -> Shown
     let outcome = name.outcome;
     match outcome {
         Outcome::Refused(_) => unreadable(),
-        Outcome::Done(n) => {
-            let text = name_writer::spelling(&bytes[..n]);
-            let bytes = text.bytes;
-            let outcome = text.outcome;
-            Shown {
-                bytes,
-                len: length_of(outcome),
-            }
-        }
+        Outcome::Done(n) => show_name(&bytes[..n]),
     }
 }
 
@@ -130,13 +138,30 @@ pub fn build(name: &[u8], answer: Answer) -> Line
     }
 }
 
+// The line that shows an answer under a shown name.
+fn line_under(shown: Shown, answer: Answer) -> Line
+    requires { ⌜ (shown .len ≤ 120) × (shown .len ≤ length (shown .bytes)) ⌝ }
+    ensures { λ r. ⌜ r ≡ lineHeld (lineOf (take (shown .len) (shown .bytes)) (held answer)) ⌝ }
+    ensures { λ r. ⌜ r .len ≤ 192 ⌝ }
+{
+    let bytes = shown.bytes;
+    let len = shown.len;
+    build(&bytes[..len], answer)
+}
+
 // The line for a spelling and its answer.
 pub fn line_of(spelled: &[u8], answer: Answer) -> Line
     ensures { λ r. ⌜ r ≡ lineHeld (line (now (spelled .entry)) (held answer)) ⌝ }
     ensures { λ r. ⌜ r .len ≤ 192 ⌝ }
 {
-    let name = show(spelled);
-    let bytes = name.bytes;
-    let len = name.len;
-    build(&bytes[..len], answer)
+    line_under(show(spelled), answer)
+}
+
+// The line for a name and its answer.
+pub fn line_of_name(name: &[u8], answer: Answer) -> Line
+    requires { ⌜ isLength (length (now name)) ≡ true ⌝ }
+    ensures { λ r. ⌜ r ≡ lineHeld (lineOf (spelled (now (name .entry))) (held answer)) ⌝ }
+    ensures { λ r. ⌜ r .len ≤ 192 ⌝ }
+{
+    line_under(show_name(name), answer)
 }

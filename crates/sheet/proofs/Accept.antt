@@ -95,7 +95,7 @@ headed s e = long (ltb 65536 (length s)) refl e
     long true p h = absurd (omega arith)
     long false p h = short (ltb (length s) 7 || not (isMarked s)) refl (ltb-false 65536 (length s) p) h
 
--- an accepted sheet: its header is not refused, nothing ends the reading of its records, and they are those that are read
+-- an accepted sheet: its header is not refused, nothing ends the reading of its records, no two share a name, and they are those that are read
 module _ (s : List ℕ) (a : Accepted s) where
   pub accepted-head : headFault s ≡ 0
   accepted-head = go (headFault s) refl
@@ -111,8 +111,11 @@ module _ (s : List ℕ) (a : Accepted s) where
   pub accepted-fault : fault s ≡ 0
   accepted-fault = apart (twice (names s (read s))) refl .0
 
+  pub accepted-apart : twice (names s (read s)) ≡ false
+  accepted-apart = apart (twice (names s (read s))) refl .1
+
   pub accepted-is : sheetOf s ≡ records (read s)
-  accepted-is = sheet-verdict s ∙ rw (accepted-head, apart (twice (names s (read s))) refl .1, accepted-fault)
+  accepted-is = sheet-verdict s ∙ rw (accepted-head, accepted-apart, accepted-fault)
 
 -- the number of a sheet, from where a walk over its records ends
 pub number-walked : (s : List ℕ) (n at left count : ℕ) (starts : List ℕ) → headFault s ≡ 0 → n ≡ numberAt 2 s 5 → Walked s n at left count starts

@@ -44,13 +44,13 @@ module _ (y : Layout) (n : ℕ) (body rest : List ℕ) (whole : length body ≡ 
         number-append 8 (n + 9) body rest (omega arith),
       )
 
-  front-head : frontOf y (n ∷ (body ++ rest)) ≡ cond (eqb n 0 || ltb 40 n) (bad 5) (fieldsOf n body (y .tail rest))
+  pub front-head : frontOf y (n ∷ (body ++ rest)) ≡ cond (eqb n 0 || ltb 40 n) (bad 5) (fieldsOf n body (y .tail rest))
   unfolding frontOf
   front-head =
       let c : n + 17 ≤ length (body ++ rest) = omega (arith, length-append body rest) in
       rw (le-ltb (length (body ++ rest)) (n + 17) c, drop-at body rest (n + 17) whole, fields-head (y .tail rest))
 
-  behind-head : (t : ℕ) → drop (18 + n + t) (n ∷ (body ++ rest)) ≡ drop t rest
+  pub behind-head : (t : ℕ) → drop (18 + n + t) (n ∷ (body ++ rest)) ≡ drop t rest
   behind-head t =
       let e : 18 + n + t ≡ length (n ∷ body) + t = omega arith in
       ap (λ (i : ℕ). drop i (n ∷ (body ++ rest))) e ∙ drop-append-add (n ∷ body) rest t

@@ -5,3 +5,4 @@ pub mod Turns
 pub mod Kept
 pub mod Entries
 pub mod Heads
+pub mod Counted

@@ -93,7 +93,7 @@ occurs-last s name (q ∷ rs) r h e =
     rw (o .0) (occurs-last s name rs r (o .1) e)
 
 -- a name that was not seen keeps the names apart
-fresh : (s : List ℕ) (rs : List Record) (r : Record) → twice (names s rs) ≡ false → seen s rs (nameIn s r) ≡ false
+pub fresh : (s : List ℕ) (rs : List Record) (r : Record) → twice (names s rs) ≡ false → seen s rs (nameIn s r) ≡ false
     → twice (names s (rs ++ (r ∷ []))) ≡ false
 fresh s [] r h e = refl
 fresh s (q ∷ rs) r h e =

@@ -53,6 +53,11 @@ abbrev pub numberOf : Sheet → ℕ
 numberOf (refused n) = n
 numberOf (records rs) = 0
 
+-- the records of a sheet; none where it is refused
+abbrev pub recordsOf : Sheet → List Record
+recordsOf (refused n) = []
+recordsOf (records rs) = rs
+
 -- document 01, below the table: an accepted sheet has none
 abbrev pub Accepted : List ℕ → Type 0
 Accepted s = numberOf (sheetOf s) ≡ 0

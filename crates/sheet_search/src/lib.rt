@@ -2,6 +2,7 @@
 use sheet_record::Record;
 ghost use mathlib.Core.Path.{_≡_};
 ghost use Rattle.sheet.specs.Index.{Indexed};
+ghost use Rattle.sheet.specs.Sheet.{sheetOf, recordsOf, seen};
 ghost use Rattle.sheet_search.specs.Find.{findOf, handedBack, Inside};
 
 // What a search finds: a record, or a refusal's number.
@@ -33,6 +34,23 @@ pub fn find(
     }
     let at = place(starts[k - 1]);
     Lookup::Hit(sheet_record::entry_at(s, at, sheet_record::long(s[at])))
+}
+
+// Whether a sheet that is indexed has a name.
+pub fn has(
+    s: &[u8],
+    starts: &[u16; 3449],
+    heads: &[u16; 4096],
+    next: &[u16; 3449],
+    name: &[u8],
+) -> bool
+    requires { ⌜ Indexed (now s) (now starts) (now heads) (now next) ⌝ }
+    ensures { λ r. ⌜ r ≡ seen (now (s .entry)) (recordsOf (sheetOf (now (s .entry)))) (now (name .entry)) ⌝ }
+{
+    match find(s, starts, heads, next, name) {
+        Lookup::Hit(_) => true,
+        Lookup::Miss(_) => false,
+    }
 }
 
 // The found name's own bytes in the sheet, or none.

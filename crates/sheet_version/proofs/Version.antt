@@ -3,16 +3,18 @@ use mathlib.Core.Bool.{Bool, true, false, cond, not, _||_}
 use mathlib.Core.List.{List}
 use mathlib.Core.Option.{Option, none, some}
 use mathlib.Core.Path.{_≡_, refl, sym, ap, _∙_}
-use Prim.Native.Nat.{ℕ}
+use Prim.Native.Nat.{ℕ, _+_, _≤_}
 use native.Mathlib.Omega.{arith}
 use borrow.Author.Tests.{eq-eqb, ne-eqb, eqb-true, eqb-false}
 use lib.Dec.{eqb, ltb}
 use lib.ListN.{length}
 use Rattle.octets.specs.Bytes.{numberAt}
 use Rattle.sheet_record.specs.Layout.{Layout, layoutOf}
+use Rattle.sheet_record.specs.declared.Record.{Record}
 use Rattle.sheet_head.specs.Head.{isMarked, versionFault, headFault}
-use Rattle.sheet.specs.Sheet.{refused, withLayout, sheetBy, sheetOf, numberOf, Accepted}
-use Rattle.sheet.proofs.Accept.{number-head}
+use Rattle.sheet.specs.Sheet.{refused, records, withLayout, sheetBy, sheetOf, numberOf, recordsOf, Accepted}
+use Rattle.sheet.proofs.Accept.{number-head, headed, accepted-head}
+use Rattle.sheet.proofs.Counted.{accepted-records, accepted-count, accepted-few}
 use Rattle.sheet_version.specs.Version.{sheetIn}
 
 module _ (v : ℕ) (s : List ℕ) where
@@ -74,3 +76,23 @@ module _ (v : ℕ) (s : List ℕ) where
       go : (t : Bool) → eqb (numberAt 2 s 3) v ≡ t → (numberAt 2 s 3 ≡ v) × Accepted s
       go true p = let e = eqb-true (numberAt 2 s 3) v p in (e, sym (ap numberOf (in-same e)) ∙ h)
       go false p = absurd (other (ltb 65536 (length s)) (ltb (length s) 7 || not (isMarked s)) (sym (in-other (eqb-false (numberAt 2 s 3) v p)) ∙ h))
+
+-- the records of a sheet that is accepted as one of a version
+module _ (v : ℕ) (s : List ℕ) where
+  pub read-in : numberOf (sheetIn v s) ≡ 0 → sheetIn v s ≡ records (recordsOf (sheetOf s))
+  read-in a = let i = in-version v s a in in-same v s (i .0) ∙ accepted-records s (i .1)
+
+  pub read-of : {rs : List Record} → sheetIn v s ≡ records rs → sheetOf s ≡ records rs
+  read-of e = sym (in-same v s (in-version v s (ap numberOf e) .0)) ∙ e
+
+  pub in-read : {rs : List Record} → sheetIn v s ≡ records rs → (numberOf (sheetIn v s) ≡ 0) × (recordsOf (sheetOf s) ≡ rs)
+  in-read e = (ap numberOf e, ap recordsOf (read-of e))
+
+  pub count-read : numberOf (sheetIn v s) ≡ 0 → length (recordsOf (sheetOf s)) ≡ numberAt 2 s 5
+  count-read a = accepted-count s (in-version v s a .1)
+
+  pub few-read : numberOf (sheetIn v s) ≡ 0 → numberAt 2 s 5 + 7 ≤ length s
+  few-read a = accepted-few s (in-version v s a .1)
+
+  pub most-read : numberOf (sheetIn v s) ≡ 0 → length s ≤ 65536
+  most-read a = headed s (accepted-head s (in-version v s a .1)) .most

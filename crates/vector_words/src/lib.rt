@@ -65,8 +65,9 @@ fn more(text: &[u8], word: Word, room: &mut [u8]) -> Word
 {
     let unit = unit_at(text, word.end);
     let len = put(room, word.len, unit.byte);
-    let number = if word.number <= 1844674407370955160 {
-        word.number * 10 + (unit.byte % 16) as u64
+    let digit = (unit.byte % 16) as u64;
+    let number = if word.number <= (18446744073709551615 - digit) / 10 {
+        word.number * 10 + digit
     } else {
         word.number
     };
@@ -98,6 +99,28 @@ pub fn next_word(text: &[u8], from: usize, stop: u8, room: &mut [u8]) -> Word
         word = more(text, word, room);
     }
     word
+}
+
+// A sheet from a place on, its bytes or @ and the name of a file that has them: they go to the start of a room.
+pub fn next_sheet(text: &[u8], from: usize, room: &mut [u8]) -> Word
+    ensures { λ r. ⌜ (from ≤ r .end) × (r .len ≤ length (now (room .exit))) ⌝ }
+{
+    let word = next_word(text, from, b' ', room);
+    let len = word.len;
+    if len < 1 {
+        return word;
+    }
+    if room[0] != b'@' {
+        return word;
+    }
+    let fd = os::open_read(&room[1..len]);
+    let n = io::read_full(fd, room);
+    libc::close(fd);
+    Word {
+        end: word.end,
+        len: n,
+        number: 0,
+    }
 }
 
 // Room for all cases, and for more bytes than a sheet may have, with a byte at every place.

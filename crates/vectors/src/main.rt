@@ -10,6 +10,14 @@
 //   find SHEET SPELLING LABEL   the record, its remark's place, and between < and > the part of the sheet that holds the name
 //   forward ROOM SHEET LABEL    how many bytes were written, and the whole room: ROOM bytes, at most 262144, each a dot before
 //   back ROOM SHEET LABEL       the same of the way back
+//   begin SHEET LABEL           the refusal's number or 0, and the walk: how many records it has given and how many it counted
+//   next ROOM GIVEN COUNT SHEET LABEL
+//                               a step of a walk: the refusal's number or 0, the line's length, the walk, and between < and > the
+//                               whole room, as above, with / for the line's newline
+//   add ROOM SHEET SPELLING KIND FIRST SECOND LABEL
+//                               how many bytes were written, and the whole room, as above
+//   during SHEET ACTS LABEL     what each act gives, then the whole sheet; an act is begin, next or add:SPELLING:KIND:FIRST:SECOND,
+//                               with a comma between two: the walk is the one last begun, the sheet what the adds made of it
 //
 // In a word \x and two hexadecimal digits stand for a byte. A sheet is its bytes, or @ and the name of a file that has them.
 use libc::STDIN_FILENO;
@@ -24,7 +32,7 @@ use vector_answers::outcome;
 use vector_answers::say;
 use vector_answers::whole;
 use vector_names::label;
-use vector_words::Word;
+use vector_words::next_sheet;
 use vector_words::next_word;
 use vector_words::room;
 use vector_words::room_of;
@@ -45,28 +53,6 @@ fn state(text: &[u8], from: usize) -> usize
     field(b"", second.number);
     answer(evaluate::evaluate((kind.number % 256) as u8, first.number, second.number));
     second.end
-}
-
-// A sheet from a place on: its bytes go to the start of a room.
-fn next_sheet(text: &[u8], from: usize, room: &mut [u8]) -> Word
-    ensures { λ r. ⌜ (from ≤ r .end) × (r .len ≤ length (now (room .exit))) ⌝ }
-{
-    let word = next_word(text, from, b' ', room);
-    let len = word.len;
-    if len < 1 {
-        return word;
-    }
-    if room[0] != b'@' {
-        return word;
-    }
-    let fd = os::open_read(&room[1..len]);
-    let n = io::read_full(fd, room);
-    libc::close(fd);
-    Word {
-        end: word.end,
-        len: n,
-        number: 0,
-    }
 }
 
 fn check(text: &[u8], from: usize) -> usize
@@ -153,7 +139,7 @@ fn convert(text: &[u8], from: usize, back: bool) -> usize
     end
 }
 
-// Runs the case at a place, which its first letter tells, or of f the first two, and gives the place of the next one.
+// Runs the case at a place, which its first letter tells, or of b and f the first two, and gives the place of the next one.
 fn case(text: &[u8], at: usize) -> usize
     requires { ⌜ at < length (now text) ⌝ }
     ensures { λ r. ⌜ at < r ⌝ }
@@ -174,7 +160,16 @@ fn case(text: &[u8], at: usize) -> usize
                 find(text, what.end)
             }
         }
-        b'b' => convert(text, what.end, true),
+        b'b' => {
+            if room[0] == b'e' {
+                vector_growing::begin(text, what.end)
+            } else {
+                convert(text, what.end, true)
+            }
+        }
+        b'n' => vector_growing::next(text, what.end),
+        b'a' => vector_growing::add(text, what.end),
+        b'd' => vector_growing::during(text, what.end),
         _ => label(text, what.end),
     }
 }

@@ -2,10 +2,8 @@
 use mathlib.Core.Path.{_≡_, sym, ap, _∙_}
 use Prim.Native.Nat.{ℕ, _<_}
 use native.Mathlib.Omega.{arith}
-use borrow.Author.Tests.{ne-eqb}
 use Rattle.kind.specs.declared.Kind.{Kind}
-use Rattle.kind.specs.declared.Kind.the-variants.{Unknown}
-use Rattle.kind.specs.Kind.{kindOf}
+use Rattle.kind.proofs.Byte.{no-kind}
 use Rattle.air.specs.Choices.{chosen}
 use Rattle.air.specs.Held.{refuses}
 use Rattle.air.specs.State.{propertyOf, heldBy, answerBy}
@@ -16,9 +14,6 @@ use Rattle.airstate.proofs.eas_evaluate.Statement.{statement}
 use Rattle.airstate.proofs.eas_evaluate.Tie as tie
 
 -- a number over 255 is no kind
-no-kind : (k : ℕ) → 255 < k → kindOf k ≡ Unknown
-no-kind k h = simp (ne-eqb k 1 (λ e. omega arith), ne-eqb k 2 (λ e. omega arith), ne-eqb k 3 (λ e. omega arith))
-
 no-answer : (k v w : ℕ) → 255 < k → refuses 6 ≡ answerBy chosen k v w
 unfolding answerBy
 no-answer k v w h = sym (ap (λ (x : Kind). heldBy chosen (propertyOf x) v w) (no-kind k h))

@@ -6,11 +6,11 @@ use native.Mathlib.Omega.{arith}
 use borrow.Author.Needs.{needs}
 use lib.ListN.{length}
 use Rattle.octets.proofs.Told.{tells-refused, tells-same}
-use Rattle.sheet.specs.Sheet.{sheetOf, numberOf}
+use Rattle.sheet.specs.Sheet.{sheetOf, numberOf, recordsOf}
 use Rattle.sheet_version.specs.Version.{sheetIn}
-use Rattle.sheet_version.proofs.Version.{in-version}
-use Rattle.convert_records.specs.Records.{sheetAs, bare, recordsOf}
-use Rattle.convert.proofs.Texts.{least-read, back-length, back-own, back-remarked, back-fitting}
+use Rattle.sheet_version.proofs.Version.{in-version, few-read}
+use Rattle.convert_records.specs.Records.{sheetAs, bare}
+use Rattle.convert.proofs.Texts.{back-length, back-own, back-remarked, back-fitting}
 use Rattle.convert.proofs.back.Statement.{statement}
 use Rattle.convert.proofs.back.Tie as tie
 
@@ -27,7 +27,7 @@ accepted : (c : tie.Else1) → numberOf (sheetIn 2 (c .before .before .before .b
 accepted c = sym (c .before .check .ensures) ∙ c .if1 .left
 
 number-requires : tie.Need-number-requires
-number-requires c κs = (omega arith, least-read 2 (c .before .before .before .before .args .s .now) (accepted c) .0)
+number-requires c κs = (omega arith, omega (arith, few-read 2 (c .before .before .before .before .args .s .now) (accepted c)))
 
 has-remark-requires : tie.Need-has-remark-requires
 has-remark-requires c κs = (in-version 2 (c .before .before .before .before .before .args .s .now) (accepted (c .before)) .1, c .number .ensures)

@@ -5,11 +5,11 @@ use native.Mathlib.Omega.{arith}
 use borrow.Author.Needs.{needs}
 use lib.ListN.{length}
 use Rattle.octets.proofs.Told.{tells-refused, tells-same}
-use Rattle.sheet.specs.Sheet.{sheetOf, numberOf}
+use Rattle.sheet.specs.Sheet.{sheetOf, numberOf, recordsOf}
 use Rattle.sheet_version.specs.Version.{sheetIn}
-use Rattle.sheet_version.proofs.Version.{in-version}
-use Rattle.convert_records.specs.Records.{sheetAs, recordsOf}
-use Rattle.convert.proofs.Texts.{least-read, forward-length, forward-many, forward-own, forward-long, forward-fitting}
+use Rattle.sheet_version.proofs.Version.{in-version, few-read, most-read}
+use Rattle.convert_records.specs.Records.{sheetAs}
+use Rattle.convert.proofs.Texts.{forward-length, forward-own, forward-long, forward-fitting}
 use Rattle.convert.proofs.forward.Statement.{statement}
 use Rattle.convert.proofs.forward.Tie as tie
 
@@ -26,7 +26,7 @@ accepted : (c : tie.Else1) → numberOf (sheetIn 1 (c .before .before .before .b
 accepted c = sym (c .before .check .ensures) ∙ c .if1 .left
 
 number-requires : tie.Need-number-requires
-number-requires c κs = (omega arith, least-read 1 (c .before .before .before .before .args .s .now) (accepted c) .0)
+number-requires c κs = (omega arith, omega (arith, few-read 1 (c .before .before .before .before .args .s .now) (accepted c)))
 
 -- the result's length
 len-is : (c : tie.After-number) → let s = c .before .before .before .before .before .args .s .now in length (sheetAs 2 s (recordsOf (sheetOf s))) ≡ length s + c .number .result
@@ -36,7 +36,7 @@ add-len : tie.Need-add-len
 add-len c =
     let s = c .before .before .before .before .before .args .s .now in
     let a = accepted (c .before) in
-    record { fits = omega (arith, least-read 1 s a .1, forward-many s a, c .number .ensures) }
+    record { fits = omega (arith, most-read 1 s a, few-read 1 s a, c .number .ensures) }
 
 returns-2 : tie.Need-returns-2
 returns-2 c =

@@ -4,8 +4,7 @@ use native.Mathlib.Omega.{arith}
 use borrow.Author.Needs.{needs}
 use Rattle.sheet_record.specs.Layout.{layoutIn}
 use Rattle.sheet_record.proofs.Tails.{tail-here}
-use Rattle.sheet.specs.Sheet.{sheetOf}
-use Rattle.convert_records.specs.Records.{recordsOf}
+use Rattle.sheet.specs.Sheet.{sheetOf, recordsOf}
 use Rattle.convert_records.proofs.Next.{Next, next}
 use Rattle.convert_records.proofs.Turns.{Looking, look-begins, look-all, look-found, look-next}
 use Rattle.convert_records.proofs.has_remark.Statement.{statement}

@@ -5,8 +5,8 @@ use borrow.Author.Needs.{needs}
 use lib.ListN.{length}
 use Rattle.octets.proofs.Room.{put-length}
 use Rattle.sheet_record.specs.Layout.{layoutIn}
-use Rattle.sheet.specs.Sheet.{sheetOf}
-use Rattle.convert_records.specs.Records.{recordFrom, recordsAs, recordsOf}
+use Rattle.sheet.specs.Sheet.{sheetOf, recordsOf}
+use Rattle.convert_records.specs.Records.{recordFrom, recordsAs}
 use Rattle.convert_records.proofs.Next.{Next, next, values-inside}
 use Rattle.convert_records.proofs.Turns.{Putting, put-begins, put-all, put-room, put-next}
 use Rattle.convert_records.proofs.put_records.Statement.{statement}

@@ -5,8 +5,8 @@ use native.Mathlib.Omega.{arith}
 use borrow.Author.Needs.{needs}
 use lib.ListN.{length}
 use Rattle.octets.proofs.Told.{fits, short, tells-refused, tells-text}
-use Rattle.sheet.specs.Sheet.{sheetOf}
-use Rattle.convert_records.specs.Records.{recordsAs, sheetAs, recordsOf}
+use Rattle.sheet.specs.Sheet.{sheetOf, recordsOf}
+use Rattle.convert_records.specs.Records.{recordsAs, sheetAs}
 use Rattle.convert_records.proofs.Turns.{reading, header-room, headed-room, put-whole}
 use Rattle.convert_records.proofs.put_sheet.Statement.{statement}
 use Rattle.convert_records.proofs.put_sheet.Tie as tie

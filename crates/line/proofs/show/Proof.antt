@@ -2,9 +2,9 @@
 use mathlib.Core.Path.{sym, ap, _∙_}
 use lib.Seq.{length-take-le}
 use Rattle.octets.specs.Room.{Text}
-use Rattle.name_reader.proofs.Answers.{read-done, read-refused}
+use Rattle.name_reader.proofs.Answers.{Read, read-done, read-refused}
 use Rattle.line.specs.Line.{shownName, shownHeld}
-use Rattle.line.proofs.Names.{show-done}
+use Rattle.line.proofs.Names.{read-length, read-shown}
 use borrow.Author.Needs.{needs}
 use Rattle.line.proofs.show.Statement.{statement}
 use Rattle.line.proofs.show.Tie as tie
@@ -21,17 +21,18 @@ unreadable-requires c κs = search needs
 enum-known-outcome : tie.Need-enum-known-outcome
 enum-known-outcome c = search needs
 
+-- the name stands in front of the array
+name-read : (c : tie.After-outcome) → Read (c .before .before .before .before .before .args .spelled .now) (c .before .before .before .read .result .bytes) (c .outcome .given .0 .0)
+name-read c = read-done _ _ (c .outcome .given .0 .0) (c .before .before .before .read .ensures) (c .outcome .given .1)
+
 array-share-prefix-bytes : tie.Need-array-share-prefix-bytes
-array-share-prefix-bytes c = (read-done _ _ (c .before .outcome .given .0 .0) (c .before .before .before .before .read .ensures) (c .before .outcome .given .1)) .inside
+array-share-prefix-bytes c = name-read (c .before) .inside
 
-slice-aggregate-spelling : tie.Need-slice-aggregate-spelling
-slice-aggregate-spelling c = sym (length-take-le _ _ ((read-done _ _ (c .before .before .outcome .given .0 .0) (c .before .before .before .before .before .read .ensures) (c .before .before .outcome .given .1)) .inside))
+slice-aggregate-show-name : tie.Need-slice-aggregate-show-name
+slice-aggregate-show-name c = sym (length-take-le _ _ (name-read (c .before .before) .inside))
 
-spelling-requires : tie.Need-spelling-requires
-spelling-requires c κs = search needs
-
-length-of-requires : tie.Need-length-of-requires
-length-of-requires c κs = search needs
+show-name-requires : tie.Need-show-name-requires
+show-name-requires c κs = read-length (name-read (c .before .before))
 
 returns : tie.Need-returns
 returns c =
@@ -39,21 +40,9 @@ returns c =
     c .unreadable .ensures ∙ sym (ap (λ (x : Text). shownHeld (shownName x)) e)
 
 returns-2 : tie.Need-returns-2
-returns-2 c =
-    let o = c .before .before .before .before .before .outcome .given in
-    show-done _ _ (o .0 .0) _ _ (read-done _ _ (o .0 .0) (c .before .before .before .before .before .before .before .before .read .ensures) (o .1)) (c .before .before .spelling .ensures) (c .length-of .ensures)
+returns-2 c = c .show-name .ensures ∙ read-shown (name-read (c .before .before .before))
 
 pub show-spec : {M : Type 1} → statement M
 show-spec =
     tie.close
-    (tie.spec
-    read-requires
-    enum-told
-    unreadable-requires
-    enum-known-outcome
-    array-share-prefix-bytes
-    slice-aggregate-spelling
-    spelling-requires
-    length-of-requires
-    returns
-    returns-2)
+    (tie.spec read-requires enum-told unreadable-requires enum-known-outcome array-share-prefix-bytes slice-aggregate-show-name show-name-requires returns returns-2)

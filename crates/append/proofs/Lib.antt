@@ -1,0 +1,6 @@
+pub mod Faults
+pub mod Record
+pub mod Behind
+pub mod Kept
+pub mod Grown
+pub mod Computed
