@@ -4,3 +4,4 @@ pub mod Behind
 pub mod Kept
 pub mod Grown
 pub mod Computed
+pub mod Exactly
