@@ -1,110 +1,32 @@
--- Demand 3's definitions at exact places, and states that it covers.
+-- The engine's definitions at exact places, and how the properties' pins write logarithms and edges.
 use mathlib.Core.Bool.{true, false}
+use mathlib.Core.Path.{_≡_, refl}
 use mathlib.Core.Option.{none}
-use mathlib.Core.Path.{_≡_, refl, sym}
-use Prim.Native.Nat.{ℕ}
-use lib.Count.{leadingZeros}
-use lib.Dec.{lit<, lit≤}
-use lib.IntN.{pos, negsuc, negℤ}
-use Rattle.fraction.specs.Fraction.{Within, whole}
-use Rattle.fraction.proofs.Order.{within-more}
-use Rattle.fraction.proofs.Pins.{one-above, one-below, one-not-above, one-not-below, reaches, reaches-no-further}
-use Rattle.logarithm.specs.Choice.{factors, factorLogs, points, rises, chordOf, nearOne, mantissaOf, lgOf, logOf}
-use Rattle.power.specs.Choice.{coarse, middle, fine, strideOf, stepOf, powerOf}
-use Rattle.quotient.specs.Mul.{mul}
-use Rattle.bicubic.specs.Bicubic.{gas1, gas2, gas3, gas4, bicubic, exponent}
-use Rattle.tgas1_temperature.specs.Pieces.{temperaturePieces}
-use Rattle.tgas1_gamma_low.specs.Pieces.{lowPieces}
-use Rattle.tgas1_gamma_middle.specs.Pieces.{middlePieces}
-use Rattle.perfect.specs.Perfect.{perfectGas}
-use Rattle.air.specs.declared.Edges.the-variants.{Unfitted, One, Two}
-use Rattle.air.specs.declared.Ends.the-variants.{Unjoined, Both}
-use Rattle.air.specs.declared.Answer.{Answer}
-use Rattle.air.specs.declared.Answer.the-variants.{Shows}
-use Rattle.air.specs.Quantities.{P0, D0, E0, T0}
-use Rattle.air.specs.Held.{held}
-use Rattle.air.specs.Choices.{chosen}
-use Rattle.air.specs.Places.{heldAt}
-use Rattle.air.specs.Temperature.{letterT}
-use Rattle.air.specs.Entropy.{letterS, entropyIn, entropyAt, perfectEntropy}
-use Rattle.air.specs.Pressure.{letterP}
-use Rattle.air.specs.Accurate.{fitDistance, entropyDistance, Between}
-use Rattle.air.specs.State.{Property, IsAnswer, temperatureBy, answerBy, refusesLogs, Accepted, unfitted, one, two}
-use Rattle.air.proofs.Allowed.{allowed, lawful}
-use Rattle.air.proofs.AtEdges.{logs, edge, at-edges}
-use Rattle.air.proofs.PressureAt.{pair, pressure-at}
+use lib.IntN.{ℤ, pos}
+use Rattle.fit.specs.declared.Edge.{Edge}
+use Rattle.air.specs.declared.Logs.{Logs}
+use Rattle.air.specs.Quantities.{P0, D0, E0, isPressure, isDensity, isEnergy}
+use Rattle.air.specs.Property.{Property, refusesLogs}
 
--- ---- T0 is ten to 0 over T0: it is between for k from -2 to 1
-pub between-at-less-2 : Between (negsuc 1) T0
-between-at-less-2 = record { above = one-above _ 1000000 T0 (lit< tt); below = one-below _ 1000000 T0 (lit< tt) }
+abbrev pub logs : ℤ → ℤ → ℤ → Logs
+logs x y z = record { triple = true; x = x; y = y; z = z }
 
-pub between-at-1 : Between (pos 1) T0
-between-at-1 = record { above = one-above _ 1000000 T0 (lit< tt); below = one-below _ 1000000 T0 (lit< tt) }
+-- Y and Z alone
+abbrev pub pair : ℤ → ℤ → Logs
+pair y z = record { triple = false; x = pos 0; y = y; z = z }
 
-pub not-between-at-less-3 : Between (negsuc 2) T0 → ⊥
-not-between-at-less-3 h = one-not-below 1000000 T0 (h .below)
+abbrev pub edge : ℤ → ℤ → Edge
+edge g w = record { fit = g; weight = w }
 
-pub not-between-at-2 : Between (pos 2) T0 → ⊥
-not-between-at-2 h = one-not-above 1000000 T0 (h .above)
+-- ---- the standards are in range, so that demand 3 speaks of some state
+pub record Standards : Type 0 where
+  pub pressure : isPressure P0 ≡ true
+  pub density : isDensity D0 ≡ true
+  pub energy : isEnergy E0 ≡ true
 
--- ---- the distances: so many units from 0, and no further
-pub fit-reaches : Within fitDistance (pos 4000) (whole (pos 0))
-fit-reaches = within-more (lit≤ tt) (reaches 4000)
-
-pub fit-reaches-no-further : Within fitDistance (pos 4001) (whole (pos 0)) → ⊥
-fit-reaches-no-further = reaches-no-further 4000
-
-pub entropy-reaches : Within entropyDistance (pos 3) (whole (pos 0))
-entropy-reaches = within-more (lit≤ tt) (reaches 3)
-
-pub entropy-reaches-no-further : Within entropyDistance (pos 4) (whole (pos 0)) → ⊥
-entropy-reaches-no-further = reaches-no-further 3
+pub standards : Standards
+standards = record { pressure = refl; density = refl; energy = refl }
 
 -- ---- an answer that holds no logarithms is not refused by them
 pub no-logs-refused : (k : Property) → refusesLogs k none ≡ false
 no-logs-refused k = refl
-
--- ---- states that demand 3 covers: what the choices make of them is allowed and accepted
-pub record Covered (kind first second : ℕ) : Type 0 where
-  pub answer : Answer
-  pub made : held answer ≡ answerBy chosen kind first second
-  pub allowed-is : IsAnswer kind first second answer
-  pub accepted : Accepted kind first second answer
-
-covered : (kind first second : ℕ) (a : Answer) → held a ≡ answerBy chosen kind first second → Accepted kind first second a → Covered kind first second
-covered kind first second a e h = record { answer = a; made = e; allowed-is = allowed chosen lawful kind first second a e; accepted = h }
-
-pub standard-temperature : Covered 1 P0 D0
-unfolding answerBy temperatureBy logOf lgOf mantissaOf nearOne chordOf factors factorLogs points rises leadingZeros perfectGas Accepted
-standard-temperature =
-    covered 1 P0 D0 (Shows letterT (record { triple = true; x = pos 0; y = pos 0; z = pos 0 }) Unfitted Unjoined (pos 273213936)) refl
-    (record { no-10 = tt; no-11 = tt; by-logs = tt; by-fit = unfitted })
-
-pub standard-entropy : Covered 2 E0 D0
-unfolding answerBy logOf lgOf mantissaOf nearOne chordOf factors factorLogs points rises leadingZeros entropyIn entropyAt perfectEntropy Accepted
-standard-entropy =
-    covered 2 E0 D0 (Shows letterS (record { triple = false; x = pos 0; y = pos 0; z = pos 0 }) Unfitted Unjoined (pos 61182203)) refl
-    (record { no-10 = tt; no-11 = tt; by-logs = tt; by-fit = unfitted })
-
-pub fitted-temperature : Covered 1 320433595305 D0
-unfolding answerBy temperatureBy heldAt logOf lgOf mantissaOf nearOne chordOf factors factorLogs points rises leadingZeros bicubic gas1 gas2 gas3 gas4 mul temperaturePieces powerOf stepOf strideOf coarse middle fine Accepted
-fitted-temperature =
-    covered 1 320433595305 D0
-    (Shows letterT (record { triple = true; x = pos 500000; y = pos 0; z = pos 500000 }) (One (record { fit = pos 4961733650; weight = pos 0 })) Unjoined (pos 856197990)) refl
-    (record { no-10 = tt; no-11 = tt; by-logs = tt; by-fit = one tt })
-
-pub joined-temperature : Covered 1 13083925 4190468
-unfolding Accepted
-joined-temperature =
-    covered 1 13083925 4190468
-    (Shows letterT (logs (negℤ (pos 3889000)) (negℤ (pos 4489000)) (pos 600000)) (Two (edge (pos 5985381782) (pos 0)) (edge (pos 5989039273) (pos 0))) (Both (pos 1083775189) (pos 1084686422)) (pos 1084431276))
-    (sym (at-edges .wide-strip))
-    (record { no-10 = tt; no-11 = tt; by-logs = tt; by-fit = two tt tt })
-
-pub joined-pressure : Covered 3 1242689394 4190468
-unfolding Accepted exponent mul lowPieces middlePieces
-joined-pressure =
-    covered 3 1242689394 4190468
-    (Shows letterP (pair (negℤ (pos 4489000)) (pos 1200000)) (Two (edge (pos 13551294749) (negℤ (pos 1958698))) (edge (pos 13552535327) (pos 997504891))) (Both (pos 18493190) (pos 18499650)) (pos 18497841))
-    (sym (pressure-at .joined))
-    (record { no-10 = tt; no-11 = tt; by-logs = tt; by-fit = two tt tt })

@@ -18,7 +18,7 @@ use Rattle.air.specs.Held.{Held, judges}
 use Rattle.air.specs.Join.{anyPlace}
 use Rattle.air.specs.Choices.{Choices, Lawful}
 use Rattle.air.specs.Places.{Rule, Point, IsPoint, AtPlaces, edgesAt, showsAt, heldAt, IsFit, pointBy, fittedBy, PointClaim, FitClaim}
-use Rattle.air.specs.State.{Property, refusesLogs, NoEdgeRefused, one, two, AcceptedBy}
+use Rattle.air.specs.Property.{Property, refusesLogs, NoEdgeRefused, one, two, AcceptedBy}
 use Rattle.air.proofs.Tests.{not-left, not-right, not-both, no-true, is-false}
 
 -- ---- what holds at every place

@@ -10,12 +10,12 @@ use Rattle.integer.specs.Z.{<→, →≤}
 use Rattle.quotient.specs.Range.{Between}
 use Rattle.bands.specs.declared.Strip.{Strip}
 use Rattle.bands.specs.declared.Strip.the-variants.{Clear}
-use Rattle.bands.specs.declared.Strip.the-variants as strip
 use Rattle.bands.specs.Bands.{lowEdge, highEdge, inside, pickStrip, stripOf}
 use Rattle.air.specs.Ready.{JoinReady}
 use Rattle.air.specs.Places.{AtPlaces}
 use Rattle.air.proofs.Tests.{and-left, and-right, is-true, abs-of}
-use Rattle.air.proofs.Fit.{YRange}
+use Rattle.air.proofs.Ranges.{YRange}
+use Rattle.bands.specs.declared.Strip.the-variants as strip
 
 lt-le : {p q : ℤ} → p <ℤ q → p ≤ℤ q
 lt-le h = →≤ (omega (arith, <→ h))

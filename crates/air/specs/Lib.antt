@@ -2,12 +2,7 @@ pub mod Quantities
 pub mod Held
 pub mod Join
 pub mod Choices
+pub mod Carried
 pub mod Places
 pub mod Ready
-pub mod Temperature
-pub mod Entropy
-pub mod Pressure
-pub mod Exact
-pub mod Accurate
-pub mod State
-pub mod ProofTable
+pub mod Property

@@ -1,4 +1,5 @@
-// A state of equilibrium air: what its answer is. Definitions and theorems; crates above work it out.
+// The answer for a state of equilibrium air, and the engine of every property: places, joins, choices, ranges. The properties are in
+// `air_temperature`, `air_entropy` and `air_pressure`, the rows of kinds in `state`; the code is in crates above them.
 use fit::Edge;
 
 // The logarithms that an answer carries, in whole millionths: y and z, and with `triple` also x, which is 0 elsewhere.

@@ -19,8 +19,9 @@ use Rattle.sheet_search.specs.declared.Lookup.the-variants.{Hit, Miss}
 use Rattle.sheet_walk.specs.Records.{recordIn}
 use Rattle.air.specs.Choices.{chosen}
 use Rattle.air.specs.Held.{Held, held}
-use Rattle.air.specs.State.{IsAnswer, answerBy}
-use Rattle.air.proofs.Allowed.{allowed, lawful}
+use Rattle.state.specs.State.{IsAnswer, answerBy}
+use Rattle.state.proofs.State.{allowed}
+use Rattle.air.proofs.Lawful.{lawful}
 use Rattle.calculator.specs.Search.{IsSearch, searchBy}
 use Rattle.calculator.proofs.Demand3.{search-allowed}
 use Rattle.line.specs.Line.{line, lineOf}

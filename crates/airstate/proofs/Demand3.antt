@@ -6,7 +6,8 @@ use Rattle.kind.specs.Kind.{kindOf}
 use Rattle.sheet_record.specs.declared.Record.{Record}
 use Rattle.air.specs.declared.Answer.{Answer}
 use Rattle.air.specs.Held.{Held, held}
-use Rattle.air.specs.State.{Property, propertyOf, AcceptedAny, Accepted}
+use Rattle.air.specs.Property.{Property, AcceptedAny}
+use Rattle.state.specs.State.{propertyOf, Accepted}
 use Rattle.calculator.proofs.Demand3.{demand3}
 use Rattle.flat.specs.declared.CAnswer.{CAnswer}
 use Rattle.flat.specs.Flat.{flat}

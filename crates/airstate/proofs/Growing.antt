@@ -10,7 +10,7 @@ use Rattle.octets.specs.Room
 use Rattle.octets.specs.Room.{Text, text, written, outcomeOf}
 use Rattle.name.specs.Name.{nameOf}
 use Rattle.air.specs.Choices.{chosen}
-use Rattle.air.specs.State.{answerBy}
+use Rattle.state.specs.State.{answerBy}
 use Rattle.sheet_name.proofs.Same.{same-equal}
 use Rattle.sheet_record.specs.declared.Record.{Record}
 use Rattle.sheet_record.specs.Front.{nameIn}

@@ -5,7 +5,7 @@ use Prim.Native.Nat.{ℕ}
 use lib.ListN.{length}
 use Rattle.octets.specs.Room.{Text, fitting, written, outcomeOf}
 use Rattle.air.specs.Held.{held}
-use Rattle.air.specs.State.{IsAnswer}
+use Rattle.state.specs.State.{IsAnswer}
 use Rattle.mark.specs.Mark.{markOf}
 use Rattle.calculator.specs.Search.{IsSearch}
 use Rattle.line.specs.Line.{line}

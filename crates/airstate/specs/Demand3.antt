@@ -10,7 +10,8 @@ use Rattle.sheet_record.specs.Front.{nameIn}
 use Rattle.sheet.specs.Sheet.{records, sheetOf}
 use Rattle.air.specs.declared.Answer.{Answer}
 use Rattle.air.specs.Held.{held}
-use Rattle.air.specs.State.{propertyOf, AcceptedAny}
+use Rattle.state.specs.State.{propertyOf}
+use Rattle.air.specs.Property.{AcceptedAny}
 use Rattle.calculator.specs.Demand3.{Answered}
 use Rattle.flat.specs.declared.CAnswer.{CAnswer}
 use Rattle.flat.specs.Flat.{flat}

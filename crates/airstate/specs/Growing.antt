@@ -9,7 +9,7 @@ use Rattle.octets.specs.Bytes.{part}
 use Rattle.octets.specs.Room.{Text, text, written, outcomeOf}
 use Rattle.name.specs.Name.{nameOf}
 use Rattle.air.specs.Choices.{Choices, chosen}
-use Rattle.air.specs.State.{answerBy}
+use Rattle.state.specs.State.{answerBy}
 use Rattle.sheet_record.specs.declared.Record.{Record}
 use Rattle.sheet_record.specs.Front.{nameIn}
 use Rattle.sheet.specs.Sheet.{records, sheetOf, numberOf, Accepted}

@@ -17,7 +17,7 @@ ghost use Rattle.sheet.specs.Sheet.{sheetOf, numberOf};
 ghost use Rattle.sheet_remark.specs.Remark.{remarkOf};
 ghost use Rattle.sheet_walk.specs.Records.{recordOf};
 ghost use Rattle.air.specs.Choices.{chosen};
-ghost use Rattle.air.specs.State.{answerBy};
+ghost use Rattle.state.specs.State.{answerBy};
 ghost use Rattle.convert.specs.Convert.{forward, back};
 ghost use Rattle.append.specs.Add.{added};
 ghost use Rattle.walk.specs.Walk.{begunBy, stepped, stepOf};

@@ -15,9 +15,10 @@ use Rattle.sheet_search.proofs.Locate.{finds}
 use Rattle.air.specs.declared.Answer.{Answer}
 use Rattle.air.specs.Held.{held}
 use Rattle.air.specs.Choices.{Choices, Lawful, chosen}
-use Rattle.air.specs.State.{IsAnswer}
-use Rattle.air.proofs.Claims.{accurate, no-refusal}
-use Rattle.air.proofs.Allowed.{allowed, lawful}
+use Rattle.state.specs.State.{IsAnswer}
+use Rattle.state.proofs.State.{accurate, no-refusal}
+use Rattle.state.proofs.State.{allowed}
+use Rattle.air.proofs.Lawful.{lawful}
 use Rattle.calculator.specs.Search.{locate, locateIn, locateName, AnswerAt, IsSearch, answerAt, searchBy}
 use Rattle.calculator.specs.Demand3.{Answered, Demand3, SearchDemand3}
 

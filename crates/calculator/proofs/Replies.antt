@@ -14,7 +14,7 @@ use Rattle.sheet_search.proofs.Pages.{Page, without, with, pageOf, Reply, misse
 use Rattle.air.specs.declared.Answer.{Answer}
 use Rattle.air.specs.Held.{Held, held, refuses}
 use Rattle.air.specs.Choices.{Choices}
-use Rattle.air.specs.State.{IsAnswer, answerBy}
+use Rattle.state.specs.State.{IsAnswer, answerBy}
 use Rattle.calculator.specs.Search.{locateName, locateIn, locate, AnswerAt, IsSearch, answerAt, searchBy}
 
 abbrev locateOn : Text → Page → Reply

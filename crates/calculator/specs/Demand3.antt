@@ -9,7 +9,7 @@ use Rattle.sheet_record.specs.Front.{nameIn}
 use Rattle.sheet.specs.Sheet.{records, sheetOf}
 use Rattle.air.specs.declared.Answer.{Answer}
 use Rattle.air.specs.Held.{held}
-use Rattle.air.specs.State.{IsAnswer, Accepted, Accurate}
+use Rattle.state.specs.State.{IsAnswer, Accepted, Accurate}
 use Rattle.air.specs.Choices.{chosen}
 use Rattle.calculator.specs.Search.{IsSearch, searchBy}
 

@@ -10,7 +10,7 @@ use Rattle.sheet.specs.Sheet.{records, sheetOf}
 use Rattle.sheet_search.specs.Find.{handedBack}
 use Rattle.air.specs.declared.Answer.{Answer}
 use Rattle.air.specs.Held.{held, refuses}
-use Rattle.air.specs.State.{IsAnswer}
+use Rattle.state.specs.State.{IsAnswer}
 use Rattle.calculator.specs.Search.{locate, IsSearch}
 
 -- the part of the sheet that a search by a spelling hands back

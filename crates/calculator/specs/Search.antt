@@ -13,7 +13,7 @@ use Rattle.sheet_search.specs.Find.{findIn}
 use Rattle.air.specs.declared.Answer.{Answer}
 use Rattle.air.specs.Held.{Held, held, refuses}
 use Rattle.air.specs.Choices.{Choices}
-use Rattle.air.specs.State.{IsAnswer, answerBy}
+use Rattle.state.specs.State.{IsAnswer, answerBy}
 
 -- the name's refusals, then 9
 abbrev pub locateName : List ℕ → List Record → Text → Lookup

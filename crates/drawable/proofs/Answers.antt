@@ -33,16 +33,20 @@ use Rattle.air.specs.Quantities.{D0, isPressure, isDensity, isEnergy}
 use Rattle.air.specs.Held.{Held, judges, shows}
 use Rattle.air.specs.Ready.{PlaceReady}
 use Rattle.air.specs.Places.{Rule, Point, edgesAt, valueAt, showsAt, heldAt, pointBy}
-use Rattle.air.specs.Temperature.{beyondFit, temperatureRule}
-use Rattle.air.specs.Entropy.{letterS, entropyAt, aboveLimit, entropyIn}
-use Rattle.air.specs.Pressure.{beyondGamma, pressureOf, pressureRule}
+use Rattle.air_temperature.specs.Temperature.{beyondFit, temperatureRule}
+use Rattle.air_entropy.specs.Entropy.{letterS, entropyAt, aboveLimit, entropyIn}
+use Rattle.air_pressure.specs.Pressure.{beyondGamma, pressureOf, pressureRule}
 use Rattle.air.specs.Join.{joined, anyPlace}
 use Rattle.air.specs.Choices.{chosen}
-use Rattle.air.specs.State.{propertyOf, heldBy, answerBy, ranged, kelvinBy, temperatureAt, temperatureBy, pressureBy, temperatureLogs, entropyLogs}
-use Rattle.air.proofs.Fit.{YRange}
-use Rattle.air.proofs.Claims.{y-range, place-ready}
-use Rattle.air.proofs.Allowed.{lawful, temperature-logs, entropy-logs}
-use Rattle.air.proofs.Sizes.{entropy-most}
+use Rattle.state.specs.State.{propertyOf, answerBy}
+use Rattle.air.specs.Property.{heldBy, ranged}
+use Rattle.air_temperature.specs.Property.{kelvinBy, temperatureAt, temperatureBy}
+use Rattle.air_pressure.specs.Property.{pressureBy}
+use Rattle.air.specs.Carried.{pressureLogs, energyLogs}
+use Rattle.air.proofs.Ranges.{YRange}
+use Rattle.air.proofs.Ranges.{y-range, place-ready}
+use Rattle.air.proofs.Lawful.{lawful, pressure-logs, energy-logs}
+use Rattle.air_entropy.proofs.Sizes.{entropy-most}
 use Rattle.air.proofs.Strips.{strip-is, strip-ready}
 use Rattle.temperature.specs.Ready.{TemperatureReady}
 use Rattle.air.proofs.Tests.{or-left, or-right}
@@ -179,14 +183,14 @@ ranged-shown n false b h f = tt
 held-shown : (k : Kind) (p d : ℕ) → CanDraw (heldBy chosen (propertyOf k) p d)
 held-shown Temperature p d =
     ranged-shown 11 (isPressure p) (isDensity d) _
-    (λ a b. temperature-shown p d (temperatureLogs chosen p d) (record { density = b; taken = temperature-logs chosen lawful p d a b }))
+    (λ a b. temperature-shown p d (pressureLogs chosen p d) (record { density = b; taken = pressure-logs chosen lawful p d a b }))
 held-shown Entropy e d =
     ranged-shown 11 (isEnergy e) (isDensity d) _
-    (λ a b. let t = entropy-logs chosen lawful e d a b in
-    entropy-shown (entropyLogs chosen e d) (y-range d _ b (t .y)) (place-ready e d _ _ a b (t .y) (t .z)))
+    (λ a b. let t = energy-logs chosen lawful e d a b in
+    entropy-shown (energyLogs chosen e d) (y-range d _ b (t .y)) (place-ready e d _ _ a b (t .y) (t .z)))
 held-shown Pressure e d =
     ranged-shown 11 (isEnergy e) (isDensity d) _
-    (λ a b. pressure-shown e d (entropyLogs chosen e d) (record { energy = a; density = b; taken = entropy-logs chosen lawful e d a b }))
+    (λ a b. pressure-shown e d (energyLogs chosen e d) (record { energy = a; density = b; taken = energy-logs chosen lawful e d a b }))
 held-shown Unknown p d = tt
 
 -- what a state's answer holds can be drawn

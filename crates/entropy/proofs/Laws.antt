@@ -9,7 +9,7 @@ use Rattle.air.specs.declared.Logs.{Logs}
 use Rattle.air.specs.declared.Edges.the-variants.{Unfitted}
 use Rattle.air.specs.declared.Ends.the-variants.{Unjoined}
 use Rattle.air.specs.Held.{Held, judges, shows}
-use Rattle.air.specs.Entropy.{letterS, entropyAt, aboveLimit, entropyIn}
+use Rattle.air_entropy.specs.Entropy.{letterS, entropyAt, aboveLimit, entropyIn}
 
 -- ---- the answer outside a strip and inside one
 module _ (l : Logs) where

@@ -9,9 +9,10 @@ ghost use mathlib.Core.Option.{some};
 ghost use Rattle.air.specs.declared.Edges.the-variants.{Unfitted};
 ghost use Rattle.bands.specs.declared.Strip.the-variants.{Clear, Between};
 ghost use Rattle.air.specs.Held.{held, judges};
-ghost use Rattle.air.specs.Entropy.{letterS, entropyIn, entropyFrom};
+ghost use Rattle.air_entropy.specs.Entropy.{letterS, entropyIn, entropyFrom};
 ghost use Rattle.air.specs.Choices.{chosen};
-ghost use Rattle.air.specs.State.{entropyProperty, heldBy};
+ghost use Rattle.air_entropy.specs.Property.{entropyProperty};
+ghost use Rattle.air.specs.Property.{heldBy};
 ghost use Rattle.air.specs.Ready.{PlaceReady, JoinReady};
 
 // Refusal 12 of an entropy.

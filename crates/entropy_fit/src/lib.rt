@@ -1,6 +1,6 @@
 // The entropy at a place, and whether Z is above its limit there.
 ghost use mathlib.Core.Path.{_≡_};
-ghost use Rattle.air.specs.Entropy.{rise, entropyAt, aboveLimit};
+ghost use Rattle.air_entropy.specs.Entropy.{rise, entropyAt, aboveLimit};
 ghost use Rattle.air.specs.Ready.{PlaceReady};
 
 // m of the perfect entropy.

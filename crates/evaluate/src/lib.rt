@@ -4,7 +4,7 @@ use kind::Kind;
 ghost use mathlib.Core.Path.{_≡_};
 ghost use Rattle.air.specs.Held.{held};
 ghost use Rattle.air.specs.Choices.{chosen};
-ghost use Rattle.air.specs.State.{answerBy, IsAnswer};
+ghost use Rattle.state.specs.State.{answerBy, IsAnswer};
 
 // The answer for a state handed in: any kind byte, any two values.
 pub fn evaluate(kind: u8, first: u64, second: u64) -> Answer

@@ -21,9 +21,10 @@ use Rattle.air.specs.Quantities.{isPressure, isDensity, isEnergy}
 use Rattle.air.specs.Held.{Held, held, refuses}
 use Rattle.air.specs.Join.{anyPlace}
 use Rattle.air.specs.Places.{Rule, Point, showsAt, heldAt}
-use Rattle.air.specs.Temperature.{IsTemperatureIn}
-use Rattle.air.specs.Entropy.{entropyIn, entropyFrom, beyondEntropy}
-use Rattle.air.specs.State.{propertyOf, Either, IsHeld, IsAnswer}
+use Rattle.air_temperature.specs.Temperature.{IsTemperatureIn}
+use Rattle.air_entropy.specs.Entropy.{entropyIn, entropyFrom, beyondEntropy}
+use Rattle.state.specs.State.{propertyOf, IsAnswer}
+use Rattle.air.specs.Property.{Either, IsHeld}
 use Rattle.flat.specs.Flat.{lowValue, highValue, flat}
 use Rattle.flat.specs.Back.{heldIn, FlatKeepsAll}
 

@@ -13,7 +13,7 @@ use Rattle.air.specs.declared.Ends.{Ends}
 use Rattle.air.specs.declared.Ends.the-variants.{Unjoined, Both}
 use Rattle.air.specs.declared.Answer.{Answer}
 use Rattle.air.specs.Held.{Held, held}
-use Rattle.air.specs.State.{IsAnswer}
+use Rattle.state.specs.State.{IsAnswer}
 use Rattle.flat.specs.declared.CEdge.{CEdge}
 use Rattle.flat.specs.declared.CAnswer.{CAnswer}
 use Rattle.flat.specs.Flat.{flat}

@@ -10,7 +10,7 @@ use lib.Ieee.{Float, binary64, inFloat, ofInt, add}
 use lib.Ieee.Exact.{HasValue}
 use Rattle.air.specs.declared.Logs.{Logs}
 use Rattle.air.specs.Held.{Held}
-use Rattle.air.specs.Pressure.{letterP}
+use Rattle.air_pressure.specs.Pressure.{letterP}
 use Rattle.mark.specs.declared.Point.{Point}
 use Rattle.mark.specs.declared.Mark.{Mark}
 use Rattle.mark.specs.declared.Mark.the-variants.{At, Blank}

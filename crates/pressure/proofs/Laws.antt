@@ -9,9 +9,9 @@ use Rattle.bands.specs.declared.Strip.the-variants as strip
 use Rattle.bands.specs.Bands.{stripOf}
 use Rattle.air.specs.declared.Logs.{Logs}
 use Rattle.air.proofs.Tests.{and-right}
-use Rattle.air.proofs.Fit.{YRange}
+use Rattle.air.proofs.Ranges.{YRange}
 use Rattle.air.proofs.Strips.{strip-is}
-use Rattle.air.proofs.Claims.{y-range, z-least, place-ready, below-standard}
+use Rattle.air.proofs.Ranges.{y-range, z-least, place-ready, below-standard}
 use Rattle.pressure_fit.specs.Ready.{GammaReady, ValuesReady, StripReady}
 use Rattle.pressure.specs.Ready.{PressureReady}
 

@@ -10,8 +10,9 @@ ghost use Rattle.bands.specs.declared.Strip.the-variants.{Clear};
 ghost use Rattle.air.specs.Held.{held};
 ghost use Rattle.air.specs.Places.{fittedBy};
 ghost use Rattle.air.specs.Choices.{chosen};
-ghost use Rattle.air.specs.Pressure.{pressureOf, pressureRule};
-ghost use Rattle.air.specs.State.{pressureBy, pressureProperty, heldBy};
+ghost use Rattle.air_pressure.specs.Pressure.{pressureOf, pressureRule};
+ghost use Rattle.air_pressure.specs.Property.{pressureBy, pressureProperty};
+ghost use Rattle.air.specs.Property.{heldBy};
 ghost use Rattle.pressure.specs.Ready.{PressureReady};
 
 // The answer outside the strips.

@@ -8,7 +8,7 @@ use lib.Signed.{leZ}
 use Rattle.integer.specs.Z.{zs, <→, ≡-by}
 use Rattle.integer.specs.Tests.{test-not-le}
 use Rattle.digits.proofs.Product.{pressure-most}
-use Rattle.air.specs.Pressure.{beyondGamma, pressureOf}
+use Rattle.air_pressure.specs.Pressure.{beyondGamma, pressureOf}
 use Rattle.air.proofs.Tests.{or-left, or-right}
 
 -- gamma - 1 in units

@@ -4,7 +4,7 @@ ghost use mathlib.Core.Bool.{false, _||_};
 ghost use mathlib.Core.Path.{_≡_};
 ghost use Rattle.air.specs.Places.{edgeBy};
 ghost use Rattle.air.specs.Choices.{chosen};
-ghost use Rattle.air.specs.Pressure.{gammaAt, isWarned, beyondGamma, pressureOf};
+ghost use Rattle.air_pressure.specs.Pressure.{gammaAt, isWarned, beyondGamma, pressureOf};
 ghost use Rattle.pressure_fit.specs.Ready.{GammaReady, ValuesReady};
 
 // Whether the listing warns at a place.

@@ -10,7 +10,7 @@ use Rattle.air.specs.declared.Edges.the-variants.{Two}
 use Rattle.air.specs.declared.Ends.the-variants.{Both}
 use Rattle.air.specs.Quantities.{D0}
 use Rattle.air.specs.Held.{Held, judges, shows}
-use Rattle.air.specs.Pressure.{letterP, beyondGamma, pressureOf}
+use Rattle.air_pressure.specs.Pressure.{letterP, beyondGamma, pressureOf}
 
 -- 17 by either gamma, or the straight line between the two pressures
 abbrev pub lineOf : ℕ → ℕ → ℤ → ℤ → Logs → Edge → Edge → Held

@@ -9,7 +9,7 @@ ghost use Rattle.bands.specs.declared.Strip.the-variants.{Between};
 ghost use Rattle.air.specs.Held.{held};
 ghost use Rattle.air.specs.Places.{fittedBy};
 ghost use Rattle.air.specs.Choices.{chosen};
-ghost use Rattle.air.specs.Pressure.{pressureOf, pressureRule};
+ghost use Rattle.air_pressure.specs.Pressure.{pressureOf, pressureRule};
 ghost use Rattle.pressure_fit.specs.Ready.{StripReady};
 ghost use Rattle.pressure_join.specs.Line.{lineOf, LineReady};
 

@@ -16,10 +16,14 @@ use Rattle.air.specs.Quantities.{isPressure, isDensity, isEnergy}
 use Rattle.air.specs.Choices.{Choices, Lawful}
 use Rattle.air.specs.Join.{anyPlace}
 use Rattle.air.specs.Places.{Rule, Point, heldAt, pointBy}
-use Rattle.air.specs.Temperature.{temperatureRule}
-use Rattle.air.specs.Entropy.{entropyIn, entropyFrom, beyondEntropy}
-use Rattle.air.specs.Pressure.{pressureOf, pressureRule}
-use Rattle.air.specs.State.{temperatureLogs, entropyLogs, kelvinBy, temperatureAt, temperatureBy, pressureBy, propertyOf, ranged, heldBy, answerBy}
+use Rattle.air_temperature.specs.Temperature.{temperatureRule}
+use Rattle.air_entropy.specs.Entropy.{entropyIn, entropyFrom, beyondEntropy}
+use Rattle.air_pressure.specs.Pressure.{pressureOf, pressureRule}
+use Rattle.air.specs.Carried.{pressureLogs, energyLogs}
+use Rattle.air_temperature.specs.Property.{kelvinBy, temperatureAt, temperatureBy}
+use Rattle.air_pressure.specs.Property.{pressureBy}
+use Rattle.state.specs.State.{propertyOf, answerBy}
+use Rattle.air.specs.Property.{ranged, heldBy}
 use Rattle.kind.specs.declared.Kind.{Kind}
 use Rattle.kind.specs.declared.Kind.the-variants.{Temperature, Entropy, Pressure, Unknown}
 use Rattle.kind.specs.Kind.{kindOf}
@@ -76,10 +80,10 @@ module _ (c : Choices) where
 
   by-kind : (k : Kind) (v w : ℕ) → Holder (heldBy c (propertyOf k) v w)
   unfolding temperatureBy pressureBy
-  by-kind Temperature v w = let l = temperatureLogs c v w in in-range 11 (isPressure v) (isDensity w) (temperature (regionOf (l .y) (l .z)) v w l)
-  by-kind Entropy v w = in-range 11 (isEnergy v) (isDensity w) {h = entropyFrom (entropyLogs c v w)} (entropy (entropyLogs c v w))
+  by-kind Temperature v w = let l = pressureLogs c v w in in-range 11 (isPressure v) (isDensity w) (temperature (regionOf (l .y) (l .z)) v w l)
+  by-kind Entropy v w = in-range 11 (isEnergy v) (isDensity w) {h = entropyFrom (energyLogs c v w)} (entropy (energyLogs c v w))
   by-kind Pressure v w =
-      let l = entropyLogs c v w in
+      let l = energyLogs c v w in
       in-range 11 (isEnergy v) (isDensity w) (fit (pressureRule v w) (stripOf (l .y)) l (pointBy c (pressureRule v w) (pressureOf v w) (l .z)))
   by-kind Unknown v w = refusal 6
 

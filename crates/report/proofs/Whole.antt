@@ -8,7 +8,7 @@ use borrow.Author.Tests.{le-leb}
 use lib.ListN.{length, take, drop}
 use lib.Seq.{take-at}
 use Rattle.air.specs.Choices.{chosen}
-use Rattle.air.proofs.Allowed.{lawful}
+use Rattle.air.proofs.Lawful.{lawful}
 use Rattle.octets.specs.declared.Outcome.{Outcome}
 use Rattle.octets.specs.declared.Outcome.the-variants.{Done}
 use Rattle.octets.specs.Room.{Text, fitting, written, outcomeOf}

@@ -8,7 +8,7 @@ use Rattle.bands.specs.Bands.{bandOf}
 use Rattle.air.specs.declared.Logs.{Logs}
 use Rattle.air.specs.Quantities.{isDensity}
 use Rattle.air.specs.Ready.{PlaceReady}
-use Rattle.air.specs.Temperature.{TemperatureLogs}
+use Rattle.air.specs.Carried.{PressureLogs}
 
 -- the band of Y, and where Y and Z lie
 pub record FittedReady (b : Band) (y z : ℤ) : Type 0 where
@@ -18,4 +18,4 @@ pub record FittedReady (b : Band) (y z : ℤ) : Type 0 where
 -- taken logarithms of a pressure and a density in range
 pub record TemperatureReady (p d : ℕ) (l : Logs) : Type 0 where
   pub density : T (isDensity d)
-  pub taken : TemperatureLogs p d l
+  pub taken : PressureLogs p d l

@@ -13,9 +13,10 @@ ghost use Rattle.bands.specs.Bands.{stripOf};
 ghost use Rattle.bands.specs.declared.Strip.the-variants.{Clear};
 ghost use Rattle.air.specs.Held.{held};
 ghost use Rattle.air.specs.Places.{heldAt, pointOf, fittedBy};
-ghost use Rattle.air.specs.Temperature.{temperatureRule};
+ghost use Rattle.air_temperature.specs.Temperature.{temperatureRule};
 ghost use Rattle.air.specs.Choices.{chosen};
-ghost use Rattle.air.specs.State.{kelvinBy, temperatureBy, temperatureProperty, heldBy};
+ghost use Rattle.air_temperature.specs.Property.{kelvinBy, temperatureBy, temperatureProperty};
+ghost use Rattle.air.specs.Property.{heldBy};
 ghost use Rattle.temperature.specs.Ready.{FittedReady, TemperatureReady};
 
 // The answer of a fit at the state's own place.

@@ -13,8 +13,8 @@ use Rattle.power.specs.Choice.{powerOf}
 use Rattle.power.proofs.Kelvin.{power-small}
 use Rattle.quotient.specs.Range.{In}
 use Rattle.air.specs.Choices.{chosen}
-use Rattle.air.specs.Temperature.{beyondFit}
-use Rattle.air.specs.State.{kelvinBy}
+use Rattle.air_temperature.specs.Temperature.{beyondFit}
+use Rattle.air_temperature.specs.Property.{kelvinBy}
 use Rattle.air.proofs.Tests.{or-right}
 
 pub record Passes (g : ℤ) : Type 0 where

@@ -7,9 +7,9 @@ ghost use Rattle.bands.specs.Region.{temperatureIndex};
 ghost use Rattle.tgas1_temperature.specs.Pieces.{temperaturePiece};
 ghost use Rattle.air.specs.Places.{edgeBy};
 ghost use Rattle.air.specs.Ready.{PlaceReady};
-ghost use Rattle.air.specs.Temperature.{beyondFit};
+ghost use Rattle.air_temperature.specs.Temperature.{beyondFit};
 ghost use Rattle.air.specs.Choices.{chosen};
-ghost use Rattle.air.specs.State.{kelvinBy};
+ghost use Rattle.air_temperature.specs.Property.{kelvinBy};
 
 // The fit of a band's piece that Z chooses.
 pub fn fit_in(band: Band, y: i64, z: i64) -> Edge

@@ -8,9 +8,9 @@ ghost use Rattle.bands.specs.declared.Strip.the-variants.{Between};
 ghost use Rattle.air.specs.Held.{held};
 ghost use Rattle.air.specs.Places.{fittedBy};
 ghost use Rattle.air.specs.Ready.{JoinReady};
-ghost use Rattle.air.specs.Temperature.{temperatureRule};
+ghost use Rattle.air_temperature.specs.Temperature.{temperatureRule};
 ghost use Rattle.air.specs.Choices.{chosen};
-ghost use Rattle.air.specs.State.{kelvinBy};
+ghost use Rattle.air_temperature.specs.Property.{kelvinBy};
 
 // The answer inside a strip, by the fits at its edges.
 pub fn joined(logs: Logs, a: i64, b: i64) -> Answer

@@ -7,7 +7,7 @@ use Rattle.octets.specs.Room.{refused, text}
 use Rattle.name.specs.Spelling.{unreserved, spelledByte, spelled}
 use Rattle.decimal.specs.Decimal.{natural, digits}
 use Rattle.air.specs.Choices.{Choices}
-use Rattle.air.specs.State.{answerBy}
+use Rattle.state.specs.State.{answerBy}
 use Rattle.sheet_record.specs.Front.{frontOf}
 use Rattle.sheet.specs.Sheet.{sheetBy, sheetOf, walk}
 use Rattle.sheet.proofs.Computed.{sheetWith, recordWith}

@@ -8,7 +8,7 @@ use lib.ListN.{length, length-append}
 use Rattle.octets.specs.Room.{Text, text}
 use Rattle.name.specs.Spelling.{spelled}
 use Rattle.air.specs.Choices.{Choices}
-use Rattle.air.specs.State.{answerBy}
+use Rattle.state.specs.State.{answerBy}
 use Rattle.sheet_record.specs.declared.Record.{Record}
 use Rattle.sheet.specs.Sheet.{records, sheetOf}
 use Rattle.sheet_version.proofs.Version.{read-of}

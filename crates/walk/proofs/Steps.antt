@@ -16,7 +16,7 @@ use Rattle.octets.proofs.Told.{fits}
 use Rattle.name.specs.Spelling.{spelled}
 use Rattle.air.specs.Choices.{Choices}
 use Rattle.air.specs.Held.{Held}
-use Rattle.air.specs.State.{answerBy}
+use Rattle.state.specs.State.{answerBy}
 use Rattle.air.specs.declared.Logs.{Logs}
 use Rattle.sheet_record.specs.Layout.{layoutIn}
 use Rattle.sheet_record.specs.Front.{nameIn}

@@ -7,7 +7,7 @@ use Rattle.octets.specs.Room.{Text, refused, text, fitting}
 use Rattle.name.specs.Spelling.{spelled}
 use Rattle.air.specs.declared.Answer.{Answer}
 use Rattle.air.specs.Held.{held}
-use Rattle.air.specs.State.{IsAnswer}
+use Rattle.state.specs.State.{IsAnswer}
 use Rattle.sheet_record.specs.declared.Record.{Record}
 use Rattle.sheet_record.specs.Front.{nameIn}
 use Rattle.sheet.specs.Sheet

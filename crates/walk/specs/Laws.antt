@@ -7,7 +7,7 @@ use Rattle.octets.specs.Room.{Text, text}
 use Rattle.name.specs.Spelling.{spelled}
 use Rattle.name.specs.Name.{nameOf}
 use Rattle.air.specs.Choices.{Choices}
-use Rattle.air.specs.State.{answerBy}
+use Rattle.state.specs.State.{answerBy}
 use Rattle.sheet_record.specs.declared.Record.{Record}
 use Rattle.sheet.specs.Sheet.{records, sheetOf, Accepted}
 use Rattle.append.specs.Add.{added, sheetAfter}

@@ -6,7 +6,8 @@ use Rattle.kind.specs.declared.Kind.{Kind}
 use Rattle.kind.proofs.Byte.{no-kind}
 use Rattle.air.specs.Choices.{chosen}
 use Rattle.air.specs.Held.{refuses}
-use Rattle.air.specs.State.{propertyOf, heldBy, answerBy}
+use Rattle.state.specs.State.{propertyOf, answerBy}
+use Rattle.air.specs.Property.{heldBy}
 use Rattle.flat.specs.Flat.{flat}
 use Rattle.airstate.proofs.Allowed.{state-made}
 use borrow.Author.Needs.{needs}

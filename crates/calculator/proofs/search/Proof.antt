@@ -1,7 +1,7 @@
 -- `calculator::search` is the answer for what the search finds, and is allowed.
 use mathlib.Core.Path.{_≡_, ap, _∙_}
 use Rattle.air.specs.Choices.{chosen}
-use Rattle.air.proofs.Allowed.{lawful}
+use Rattle.air.proofs.Lawful.{lawful}
 use Rattle.calculator.specs.Search.{answerAt, searchBy}
 use Rattle.calculator.proofs.Demand3.{search-allowed}
 use borrow.Author.Needs.{needs}

@@ -14,8 +14,9 @@ use Rattle.integer.proofs.Machine.{back-ok}
 use Rattle.air.specs.Quantities.{D0, E0, within, isEnergy, isDensity}
 use Rattle.air.specs.Choices.{chosen}
 use Rattle.air.proofs.Tests.{at-least}
-use Rattle.air.proofs.Allowed.{lawful, entropy-logs, first-refused, second-refused, both-in-range}
-use Rattle.air.proofs.Claims.{place-ready}
+use Rattle.air.proofs.Lawful.{lawful, energy-logs}
+use Rattle.air.proofs.Sound.{first-refused, second-refused, both-in-range}
+use Rattle.air.proofs.Ranges.{place-ready}
 use Rattle.entropy.proofs.entropy.Statement.{statement}
 use Rattle.entropy.proofs.entropy.Tie as tie
 
@@ -60,7 +61,7 @@ entropy-from-requires c κs =
     let s = c .before .before .before .before .before .before in
     let a = is-true (energy (c .before .before .before .before)) in
     let b = is-true (density (c .before .before)) in
-    let l = entropy-logs chosen lawful (s .args .e) (s .args .d) a b in
+    let l = energy-logs chosen lawful (s .args .e) (s .args .d) a b in
     rw (y-is (c .before), z-is c) (place-ready (s .args .e) (s .args .d) _ _ a b (l .y) (l .z))
 
 returns-3 : tie.Need-returns-3

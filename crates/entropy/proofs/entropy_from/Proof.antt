@@ -4,7 +4,7 @@ use borrow.Author.Needs.{needs}
 use Rattle.integer.proofs.Machine.{back}
 use Rattle.bands.specs.declared.Strip.{Strip}
 use Rattle.bands.specs.Bands.{stripOf}
-use Rattle.air.specs.Entropy.{entropyIn}
+use Rattle.air_entropy.specs.Entropy.{entropyIn}
 use Rattle.air.proofs.Strips.{strip-ready}
 use Rattle.entropy.proofs.entropy_from.Statement.{statement}
 use Rattle.entropy.proofs.entropy_from.Tie as tie

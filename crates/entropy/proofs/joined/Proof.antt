@@ -4,8 +4,9 @@ use borrow.Author.Needs.{needs}
 use Rattle.proportion.specs.Straight.{straight}
 use Rattle.integer.proofs.Machine.{back, back-ok}
 use Rattle.quotient.proofs.Machine.{in-back, in-ok}
-use Rattle.air.specs.Entropy.{entropyAt, aboveLimit}
-use Rattle.air.proofs.Sizes.{in-25, entropy-in}
+use Rattle.air_entropy.specs.Entropy.{entropyAt, aboveLimit}
+use Rattle.air.proofs.Sizes.{in-25}
+use Rattle.air_entropy.proofs.Sizes.{entropy-in}
 use Rattle.entropy.proofs.Laws.{beyond-low, beyond-high, shown-join}
 use Rattle.entropy.proofs.joined.Statement.{statement}
 use Rattle.entropy.proofs.joined.Tie as tie

@@ -2,7 +2,7 @@
 use mathlib.Core.Path.{_≡_, sym, _∙_}
 use borrow.Author.Needs.{needs}
 use Rattle.integer.proofs.Machine.{back, back-ok}
-use Rattle.air.specs.Entropy.{entropyAt, aboveLimit}
+use Rattle.air_entropy.specs.Entropy.{entropyAt, aboveLimit}
 use Rattle.entropy.proofs.Laws.{beyond-clear, shown-clear}
 use Rattle.entropy.proofs.unjoined.Statement.{statement}
 use Rattle.entropy.proofs.unjoined.Tie as tie

@@ -19,8 +19,9 @@ use Rattle.bands.specs.Bands.{bandOf}
 use Rattle.tgas2_entropy.specs.Entropy.{entropyCoefficients}
 use Rattle.tgas2_entropy.proofs.Sizes.{entropy-small}
 use Rattle.perfect.specs.Perfect.{R}
-use Rattle.air.specs.Entropy.{rise, perfectEntropy, fittedEntropy, entropyAt}
-use Rattle.air.proofs.Sizes.{in-25, bicubic-in, rise-in}
+use Rattle.air_entropy.specs.Entropy.{rise, perfectEntropy, fittedEntropy, entropyAt}
+use Rattle.air.proofs.Sizes.{in-25, bicubic-in}
+use Rattle.air_entropy.proofs.Sizes.{rise-in}
 use Rattle.entropy_fit.proofs.entropy_at.Statement.{statement}
 use Rattle.entropy_fit.proofs.entropy_at.Tie as tie
 use Rattle.entropy_fit.proofs.entropy_at.Reads as reads

@@ -10,8 +10,8 @@ use mir.Val.{SFits}
 use Rattle.integer.specs.Z.{zs, v}
 use Rattle.integer.specs.Laws.{abs-is, abs-by}
 use Rattle.integer.proofs.Machine.{back, fits64}
-use Rattle.air.specs.Entropy.{rise}
-use Rattle.air.proofs.Sizes.{rise-in}
+use Rattle.air_entropy.specs.Entropy.{rise}
+use Rattle.air_entropy.proofs.Sizes.{rise-in}
 use Rattle.air.specs.Ready.{PlaceReady}
 use Rattle.entropy_fit.proofs.rise.Statement.{statement}
 use Rattle.entropy_fit.proofs.rise.Tie as tie

@@ -5,8 +5,10 @@ use Rattle.kind.specs.declared.Kind.{Kind}
 use Rattle.air.specs.declared.Answer.{Answer}
 use Rattle.air.specs.Held.{held}
 use Rattle.air.specs.Choices.{chosen}
-use Rattle.air.specs.State.{propertyOf, heldBy, answerBy, IsAnswer}
-use Rattle.air.proofs.Allowed.{allowed, lawful}
+use Rattle.state.specs.State.{propertyOf, answerBy, IsAnswer}
+use Rattle.air.specs.Property.{heldBy}
+use Rattle.state.proofs.State.{allowed}
+use Rattle.air.proofs.Lawful.{lawful}
 use Rattle.evaluate.proofs.evaluate.Statement.{statement}
 use Rattle.evaluate.proofs.evaluate.Tie as tie
 

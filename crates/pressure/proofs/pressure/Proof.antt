@@ -14,7 +14,8 @@ use Rattle.integer.proofs.Machine.{back-ok}
 use Rattle.air.specs.Quantities.{D0, E0, within, isEnergy, isDensity}
 use Rattle.air.specs.Choices.{chosen}
 use Rattle.air.proofs.Tests.{at-least}
-use Rattle.air.proofs.Allowed.{lawful, entropy-logs, first-refused, second-refused, both-in-range}
+use Rattle.air.proofs.Lawful.{lawful, energy-logs}
+use Rattle.air.proofs.Sound.{first-refused, second-refused, both-in-range}
 use Rattle.pressure.proofs.pressure.Statement.{statement}
 use Rattle.pressure.proofs.pressure.Tie as tie
 
@@ -59,7 +60,7 @@ pressure-from-requires c κs =
     let s = c .before .before .before .before .before .before in
     let a = is-true (energy (c .before .before .before .before)) in
     let b = is-true (density (c .before .before)) in
-    rw (y-is (c .before), z-is c) (record { energy = a; density = b; taken = entropy-logs chosen lawful (s .args .e) (s .args .d) a b })
+    rw (y-is (c .before), z-is c) (record { energy = a; density = b; taken = energy-logs chosen lawful (s .args .e) (s .args .d) a b })
 
 returns-3 : tie.Need-returns-3
 returns-3 c =

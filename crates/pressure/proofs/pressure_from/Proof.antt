@@ -6,8 +6,8 @@ use Rattle.bands.specs.declared.Strip.{Strip}
 use Rattle.bands.specs.Bands.{stripOf}
 use Rattle.air.specs.Choices.{chosen}
 use Rattle.air.specs.Places.{fittedBy}
-use Rattle.air.specs.Pressure.{pressureOf, pressureRule}
-use Rattle.air.specs.State.{pressureBy}
+use Rattle.air_pressure.specs.Pressure.{pressureOf, pressureRule}
+use Rattle.air_pressure.specs.Property.{pressureBy}
 use Rattle.pressure.proofs.Laws.{strip-ready}
 use Rattle.pressure.proofs.pressure_from.Statement.{statement}
 use Rattle.pressure.proofs.pressure_from.Tie as tie

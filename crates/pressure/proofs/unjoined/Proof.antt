@@ -14,8 +14,8 @@ use Rattle.air.specs.declared.Logs.{Logs}
 use Rattle.air.specs.Held.{Held, judges, shows}
 use Rattle.air.specs.Choices.{chosen}
 use Rattle.air.specs.Places.{edgeBy, heldAt, fittedBy}
-use Rattle.air.specs.Pressure.{letterP, gammaAt, isWarned, beyondGammaLogs, beyondGamma, pressureOf, pressureRule}
-use Rattle.air.proofs.Fit.{warned-only}
+use Rattle.air_pressure.specs.Pressure.{letterP, gammaAt, isWarned, beyondGammaLogs, beyondGamma, pressureOf, pressureRule}
+use Rattle.air_pressure.proofs.Fit.{warned-only}
 use Rattle.pressure.proofs.Laws.{own-ready, values-ready}
 use Rattle.pressure.proofs.unjoined.Statement.{statement}
 use Rattle.pressure.proofs.unjoined.Tie as tie

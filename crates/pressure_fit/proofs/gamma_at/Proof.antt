@@ -11,9 +11,9 @@ use Rattle.bands.specs.declared.Band.{Band}
 use Rattle.bands.specs.Bands.{bandOf}
 use Rattle.tgas1_gamma.specs.Gamma.{gammaPiece}
 use Rattle.tgas1_gamma.proofs.Pieces.{piece-small}
-use Rattle.air.specs.Pressure.{gammaAt}
+use Rattle.air_pressure.specs.Pressure.{gammaAt}
 use Rattle.air.proofs.Tests.{is-false, abs-of}
-use Rattle.air.proofs.Fit.{gamma-served}
+use Rattle.air_pressure.proofs.Fit.{gamma-served}
 use Rattle.air.proofs.Sizes.{in-23}
 use Rattle.pressure_fit.proofs.gamma_at.Statement.{statement}
 use Rattle.pressure_fit.proofs.gamma_at.Tie as tie

@@ -15,9 +15,9 @@ use Rattle.air.specs.declared.Logs.{Logs}
 use Rattle.air.specs.Held.{Held, judges}
 use Rattle.air.specs.Choices.{chosen}
 use Rattle.air.specs.Places.{edgeBy, heldAt, fittedBy}
-use Rattle.air.specs.Pressure.{letterP, gammaAt, isWarned, beyondGammaLogs, pressureOf, pressureRule}
+use Rattle.air_pressure.specs.Pressure.{letterP, gammaAt, isWarned, beyondGammaLogs, pressureOf, pressureRule}
 use Rattle.air.proofs.Tests.{or-left, or-right, abs-of}
-use Rattle.air.proofs.Fit.{GammaBox, warned-only}
+use Rattle.air_pressure.proofs.Fit.{GammaBox, warned-only}
 use Rattle.air.proofs.Sizes.{in-25}
 use Rattle.pressure_fit.specs.Ready.{GammaReady}
 use Rattle.pressure_join.specs.Line.{lineOf}

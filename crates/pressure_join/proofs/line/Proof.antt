@@ -18,7 +18,7 @@ use Rattle.air.specs.declared.Ends.the-variants.{Both}
 use Rattle.air.specs.declared.Logs.{Logs}
 use Rattle.air.specs.Quantities.{D0}
 use Rattle.air.specs.Held.{Held, judges, shows}
-use Rattle.air.specs.Pressure.{letterP, beyondGamma, pressureOf}
+use Rattle.air_pressure.specs.Pressure.{letterP, beyondGamma, pressureOf}
 use Rattle.air.proofs.Tests.{or-left, or-right}
 use Rattle.pressure_fit.specs.Ready.{ValuesReady}
 use Rattle.pressure_fit.proofs.Gammas.{passes, pressure-small}

@@ -9,8 +9,8 @@ use Rattle.bands.specs.Region.{temperatureIndex}
 use Rattle.tgas1_temperature.specs.Pieces.{temperaturePiece}
 use Rattle.air.specs.Choices.{chosen}
 use Rattle.air.specs.Places.{edgeBy, pointOf, pointBy, fittedBy}
-use Rattle.air.specs.Temperature.{pieceAt, temperatureRule}
-use Rattle.air.specs.State.{kelvinBy}
+use Rattle.air_temperature.specs.Temperature.{pieceAt, temperatureRule}
+use Rattle.air_temperature.specs.Property.{kelvinBy}
 use Rattle.air.proofs.Places.{own-place}
 use Rattle.air.proofs.Strips.{strip-ready}
 use Rattle.temperature.proofs.fitted.Statement.{statement}

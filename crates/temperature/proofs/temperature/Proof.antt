@@ -17,9 +17,11 @@ use Rattle.integer.proofs.Machine.{back, back-ok, fits64}
 use Rattle.air.specs.declared.Logs.{Logs}
 use Rattle.air.specs.Quantities.{P0, D0, isPressure, isDensity}
 use Rattle.air.specs.Choices.{chosen}
-use Rattle.air.specs.State.{temperatureLogs, temperatureBy}
+use Rattle.air.specs.Carried.{pressureLogs}
+use Rattle.air_temperature.specs.Property.{temperatureBy}
 use Rattle.air.proofs.Tests.{at-least}
-use Rattle.air.proofs.Allowed.{lawful, temperature-logs, first-refused, second-refused, both-in-range}
+use Rattle.air.proofs.Lawful.{lawful, pressure-logs}
+use Rattle.air.proofs.Sound.{first-refused, second-refused, both-in-range}
 use Rattle.temperature.specs.Ready.{TemperatureReady}
 use Rattle.temperature.proofs.temperature.Statement.{statement}
 use Rattle.temperature.proofs.temperature.Tie as tie
@@ -60,7 +62,7 @@ logs-are : (c : tie.After-log10-ratio2) → let s = c .before .before .before .b
       y = toZ w64 (ofZ w64 (c .log10-ratio2 .result));
       z = toZ w64 (ofZ w64 (toZ w64 (ofZ w64 (c .before .log10-ratio .result)) -ℤ toZ w64 (ofZ w64 (c .log10-ratio2 .result))));
     }
-    ≡ temperatureLogs chosen (s .args .p) (s .args .d)
+    ≡ pressureLogs chosen (s .args .p) (s .args .d)
 logs-are c = rw (x-is (c .before), y-is c, back (fits64 _ (differences-fit c .0)))
 
 within-requires : tie.Need-within-requires
@@ -93,7 +95,7 @@ temperature-from-requires c κs =
     let s = c .before .before .before .before .before .before in
     let a = is-true (pressure (c .before .before .before .before)) in
     let b = is-true (density (c .before .before)) in
-    subst (TemperatureReady (s .args .p) (s .args .d)) (sym (logs-are c)) (record { density = b; taken = temperature-logs chosen lawful (s .args .p) (s .args .d) a b })
+    subst (TemperatureReady (s .args .p) (s .args .d)) (sym (logs-are c)) (record { density = b; taken = pressure-logs chosen lawful (s .args .p) (s .args .d) a b })
 
 returns-3 : tie.Need-returns-3
 returns-3 c =

@@ -12,8 +12,8 @@ use Rattle.bands.proofs.Regions.{perfect-region, fitted-region}
 use Rattle.perfect.specs.Perfect.{Dividable}
 use Rattle.perfect.proofs.Quotient.{perfect-small}
 use Rattle.air.specs.Choices.{chosen}
-use Rattle.air.specs.State.{temperatureAt, temperatureBy}
-use Rattle.air.proofs.Claims.{y-most}
+use Rattle.air_temperature.specs.Property.{temperatureAt, temperatureBy}
+use Rattle.air.proofs.Ranges.{y-most}
 use Rattle.temperature.proofs.Laws.{window-most, dividable}
 use Rattle.temperature.proofs.temperature_from.Statement.{statement}
 use Rattle.temperature.proofs.temperature_from.Tie as tie

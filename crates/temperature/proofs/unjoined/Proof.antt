@@ -11,8 +11,8 @@ use Rattle.air.specs.declared.Ends.the-variants.{Unjoined}
 use Rattle.air.specs.Held.{shows}
 use Rattle.air.specs.Choices.{chosen}
 use Rattle.air.specs.Places.{pointOf}
-use Rattle.air.specs.Temperature.{letterT, beyondFit, temperatureRule}
-use Rattle.air.specs.State.{kelvinBy}
+use Rattle.air_temperature.specs.Temperature.{letterT, beyondFit, temperatureRule}
+use Rattle.air_temperature.specs.Property.{kelvinBy}
 use Rattle.air.proofs.Places.{fit-refused, fit-shown}
 use Rattle.temperature.proofs.unjoined.Statement.{statement}
 use Rattle.temperature.proofs.unjoined.Tie as tie

@@ -12,7 +12,7 @@ use Rattle.bands.specs.Region.{temperatureIndex}
 use Rattle.bands.proofs.Index.{index-is-piece}
 use Rattle.tgas1_temperature.specs.Pieces.{temperaturePiece}
 use Rattle.tgas1_temperature.proofs.Pieces.{piece-small}
-use Rattle.air.proofs.Allowed.{served-at}
+use Rattle.air_temperature.proofs.Allowed.{served-at}
 use Rattle.air.proofs.Sizes.{in-23}
 use Rattle.temperature_fit.proofs.fit_in.Statement.{statement}
 use Rattle.temperature_fit.proofs.fit_in.Tie as tie

@@ -22,8 +22,8 @@ use Rattle.air.specs.Held.{judges, shows}
 use Rattle.air.specs.Choices.{chosen}
 use Rattle.air.specs.Places.{Point, edgeBy, pointBy}
 use Rattle.air.specs.Ready.{PlaceReady}
-use Rattle.air.specs.Temperature.{letterT, beyondFit, temperatureRule}
-use Rattle.air.specs.State.{kelvinBy}
+use Rattle.air_temperature.specs.Temperature.{letterT, beyondFit, temperatureRule}
+use Rattle.air_temperature.specs.Property.{kelvinBy}
 use Rattle.air.proofs.Sizes.{in-25}
 use Rattle.air.proofs.Places.{fit-refused, fit-shown}
 use Rattle.air.proofs.Tests.{or-left, or-right}

@@ -1,0 +1,3 @@
+// Entropy of an energy and a density: what its answer holds and what is claimed of it, in specs/ and proofs/; the code is in
+// `entropy`. A crate has at least one function.
+pub fn unit() {}

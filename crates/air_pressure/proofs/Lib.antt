@@ -1,0 +1,4 @@
+pub mod Fit
+pub mod Distances
+pub mod Sound
+pub mod PressureAt

@@ -1,0 +1,3 @@
+pub mod Pressure
+pub mod Claim
+pub mod Property

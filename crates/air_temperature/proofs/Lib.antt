@@ -1,0 +1,9 @@
+pub mod Between
+pub mod Fit
+pub mod Distances
+pub mod Claim
+pub mod Allowed
+pub mod Sound
+pub mod Standard
+pub mod AtEdges
+pub mod Pins

@@ -1,0 +1,3 @@
+pub mod Temperature
+pub mod Claim
+pub mod Property
