@@ -1,7 +1,7 @@
 """Compares every number of the listing crates' tables, in specs/ and packed in src/, with tests/listing/*.txt: the numerals as
 source document 000 prints them, by label and name. A number that differs, is missing or stands elsewhere fails, and so does an
 end, a limit or a transition that is not the listing's, and a packed block that is not lent once, is not as small as it can be or
-is not as tests/listing/pack.py prints it."""
+is not as tests/listing prints it, and a band's crate that is not as tests/listing/band_crates.py prints it."""
 
 import re
 import subprocess
@@ -13,12 +13,15 @@ ROOT = Path(__file__).resolve().parent.parent
 CRATES = ROOT / "crates"
 sys.dont_write_bytecode = True
 sys.path.insert(0, str(ROOT / "tests" / "listing"))
+import band_crates
 import blocks
 import pack
 
-# each listing's crate, for pressure each band's, and the file of its tables in specs/; the bands' own crate has temperature's ends
+# each listing's crate, or each band's, and the file of its tables in specs/; the crate `bands` has temperature's ends too
 TABLES = {
-    "temperature": ("tgas1_temperature", "Pieces.antt"),
+    "temperature low": ("tgas1_temperature_low", "Pieces.antt"),
+    "temperature middle": ("tgas1_temperature_middle", "Pieces.antt"),
+    "temperature high": ("tgas1_temperature_high", "Pieces.antt"),
     "entropy": ("tgas2_entropy", "Entropy.antt"),
     "pressure low": ("tgas1_gamma_low", "Pieces.antt"),
     "pressure middle": ("tgas1_gamma_middle", "Pieces.antt"),
@@ -33,7 +36,8 @@ FIRST, SECOND, TERMS = ("GAS1", "GAS2", "GAS3", "GAS4"), ("GAS5", "GAS6", "GAS7"
 PARTS = (("A", FIRST), ("B", SECOND), ("q", TERMS))
 
 # each listing's packed bytes: one for each number, and four or eight; the one gamma of each band's first piece is in no block
-SIZES = {"temperature": 1654, "entropy": 234, "pressure low": 790, "pressure middle": 672, "pressure high": 410}
+SIZES = {"temperature low": 614, "temperature middle": 634, "temperature high": 406}
+SIZES |= {"entropy": 234, "pressure low": 790, "pressure middle": 672, "pressure high": 410}
 
 # numerals near and at half a unit of 10^-10, and the units that they are rounded to
 ROUNDED = {"0.5E-10": 1, "-0.5E-10": -1, "2.5E-10": 3, "-2.5E-10": -3, "0.49E-10": 0, "-0.49E-10": 0, "-3.32714E-06": -33271}
@@ -108,10 +112,9 @@ def packing():
             needed[len(places)] = max(count, needed.get(len(places), 0))
             lengths.setdefault(len(places), set()).add(len(words))
         same(f"{file}: bytes of all numbers", size, SIZES[kind])
-        command = [sys.executable, ROOT / "tests" / "listing" / "pack.py", *kind.split()]
-        told = subprocess.run(command, capture_output=True, check=True).stdout
-        same(f"{file}: as pack.py prints it", file.read_bytes() == told, True)
     same("lengths of the arrays of words", lengths, {numbers: {count} for numbers, count in needed.items()})
+    told = subprocess.run([sys.executable, ROOT / "tests" / "listing" / "pack.py"], capture_output=True, check=True).stdout
+    same("the entropy's blocks, as pack.py prints them", (CRATES / TABLES["entropy"][0] / "src" / "blocks.rt").read_bytes() == told, True)
 
 
 def wanted(temperature, entropy, pressure):
@@ -119,7 +122,7 @@ def wanted(temperature, entropy, pressure):
     lists = {}
     for kind, rows, bands in (("temperature", temperature, TEMPERATURE), ("pressure", pressure, PRESSURE)):
         for band, labels in bands.items():
-            table = kind if kind in TABLES else f"{kind} {band}"
+            table = f"{kind} {band}"
             for index, label in enumerate(labels, 1):
                 if (label, "GAMMA") in rows:
                     lists[table, f"{band}{index}-A"] = rows.pop((label, "GAMMA"))
@@ -141,7 +144,7 @@ def ends(temperature, entropy):
     spec = (CRATES / "bands" / "specs" / "Region.antt").read_text()
     code = (CRATES / "bands" / "src" / "lib.rt").read_text()
     for band, labels in TEMPERATURE.items():
-        want = [n // 10**4 for label in labels[:-1] for n in temperature.pop((label, "END"))]
+        want = [n // 10**4 for label in labels[:-1] for n in temperature[label, "END"]]
         line = re.search(rf"^temperatureEnds {band.title()} = (.*)$", spec, re.M).group(1)
         same(f"specs, ends of {band}", [int(n) for n in re.findall(r"pos (\d+)", line)], want)
         call = re.search(rf"Band::{band.title()} => \w+\(z, ([^)]*)\)", code).group(1)
@@ -178,15 +181,15 @@ def call(name, joined, sign, kept):
     return name, "joint_at" if joined else "alone_at", [f"Form::{form}"] * joined + ["y", "z"]
 
 
-def gamma_pieces(crate, names, parts):
-    """the pieces in order, with their transitions; how far the fit's code keeps an exponent from 0"""
+def band_pieces(crate, names, parts, constants):
+    """the pieces in order, with their transitions, so many constants first; how far the fit's code keeps an exponent from 0"""
     band = names[0][:-1]
     table = found(rf"^{band}Pieces =\n((?:    .*\n)+)", source(crate, "specs/Pieces.antt"))
     same(f"{crate}, specs: the pieces", re.findall(r"^    (?:∷ )?(.*)$", table, re.M), [*map(piece, names, *zip(*parts)), "[]"])
     function = r"^fn (\w+)\(y: i64, z: i64\) -> Edge\n.*\n.*\n\{\n    fit::(\w+)\(([^)]*)\)\n\}"
     calls = re.findall(function, source(crate, "src/lib.rt"), re.M)
     have = [(name, callee, [a for a in re.split(r"[\s,]+", given) if a and a[0] != "&"]) for name, callee, given in calls]
-    same(f"{crate}, src: the pieces", have, [*map(call, names, *zip(*parts))][1:])
+    same(f"{crate}, src: the pieces", have, [*map(call, names, *zip(*parts))][constants:])
     for most in (kept[0] for _, _, kept in parts if kept):
         bound = found(r"^limitOf Kept = some (\d+)$", source("fit", "specs/Edge.antt"))
         same("fit, specs: how far an exponent is kept", int(bound), most)
@@ -194,34 +197,40 @@ def gamma_pieces(crate, names, parts):
         same("fit, src: how far an exponent is kept", {abs(int(n)) for n in re.findall(r"-?\d+", body)}, {most})
 
 
-def gamma_ends(crate, names, ends, limit):
-    """the ends in definitions and code, which has a constant first, and the limit of Z; gives the constant"""
-    band, code = names[0][:-1], source(crate, "src/lib.rt")
+def band_ends(crate, function, names, ends, constants):
+    """the ends in definitions and code; gives the constants that the code has first"""
+    band = names[0][:-1]
     line = found(rf"^{band}Ends = (.*) ∷ \[\]$", source(crate, "specs/Pieces.antt"))
     same(f"{crate}, specs: the ends", line, " ∷ ".join(f"pos {n}" for n in ends))
-    body = found(r"^pub fn gamma\(.*\n(?:    .*\n)*\{\n((?:    .*\n)*)\}", code)
+    body = found(rf"^pub fn {function}\(.*\n(?:    .*\n)*\{{\n((?:    .*\n)*)\}}", source(crate, "src/lib.rt"))
     arm = r"    if z <= (\d+) \{\n        return (?:Edge \{\s*fit: (\d+),\s*weight: 0,\s*\}|(\w+\(y, z\)));\n    \}\n"
     lines = re.sub(arm, r"\1 \2\3\n", body).splitlines()
-    (constant,) = re.findall(rf"^{ends[0]} (\d+)$", lines[0]) or [0]
-    want = [f"{end} {name}(y, z)" for end, name in zip(ends[1:], names[1:])] + [f"    {names[-1]}(y, z)"]
-    same(f"{crate}, src: the ends", lines[1:], want)
-    same(f"{crate}, specs: the limit", found(rf"^{band}Limit = pos (\d+)$", source(crate, "specs/Pieces.antt")), str(limit))
-    warns = found(rf"Band::{band.title()} => (\d+) < z,$", source("tgas1_gamma", "src/lib.rt"))
-    same(f"tgas1_gamma, src: the limit of {band}", warns, str(limit))
-    return int(constant)
+    want = [f"{end} {name}(y, z)" for end, name in zip(ends, names)] + [f"    {names[-1]}(y, z)"]
+    same(f"{crate}, src: the ends", lines[constants:], want[constants:])
+    return [int(found(rf"^{end} (\d+)$", line)) for end, line in zip(ends[:constants], lines)]
+
+
+def band(kind, function, name, labels, rows, lists):
+    """all of a band's crate but the lists; gives the constants of its code, which are in no block"""
+    crate = TABLES[f"{kind} {name}"][0]
+    names = [f"{name}{index}" for index in range(1, len(labels) + 1)]
+    signs, kept = ([rows.pop((label, part), []) for label in labels] for part in ("SIGN", "KEPT"))
+    constants = sum(len(lists[f"{kind} {name}", f"{piece}-A"]) == 1 for piece in names)
+    band_pieces(crate, names, [*zip([(f"{kind} {name}", f"{piece}-B") in lists for piece in names], signs, kept)], constants)
+    ends = [n // 10**4 for label in labels[:-1] for n in rows.pop((label, "END"))]
+    return band_ends(crate, function, names, ends, constants)
 
 
 def gamma(pressure, lists):
-    """all of the gamma crates but the lists; gives the constants of their code as lists, for they are in no block"""
+    """the gamma crates; gives the constants of their code as lists"""
     constants = {}
-    for band, labels in PRESSURE.items():
-        kind = f"pressure {band}"
-        names = [f"{band}{index}" for index in range(1, len(labels) + 1)]
-        signs, kept = ([pressure.pop((label, name), []) for label in labels] for name in ("SIGN", "KEPT"))
-        gamma_pieces(TABLES[kind][0], names, [*zip([(kind, f"{name}-B") in lists for name in names], signs, kept)])
-        ends = [n // 10**4 for label in labels[:-1] for n in pressure.pop((label, "END"))]
+    for name, labels in PRESSURE.items():
+        constants[f"pressure {name}"] = {f"{name}1-A": band("pressure", "gamma", name, labels, pressure, lists)}
         (limit,) = pressure.pop((labels[-1], "LIMIT"))
-        constants[kind] = {f"{names[0]}-A": [gamma_ends(TABLES[kind][0], names, ends, limit // 10**4)]}
+        crate, most = TABLES[f"pressure {name}"][0], str(limit // 10**4)
+        same(f"{crate}, specs: the limit", found(rf"^{name}Limit = pos (\d+)$", source(crate, "specs/Pieces.antt")), most)
+        warns = found(rf"Band::{name.title()} => (\d+) < z,$", source("tgas1_gamma", "src/lib.rt"))
+        same(f"tgas1_gamma, src: the limit of {name}", warns, most)
     return constants
 
 
@@ -235,6 +244,8 @@ def main():
     temperature, entropy, pressure = (printed(f"{kind}.txt") for kind in ("temperature", "entropy", "pressure"))
     lists = wanted(temperature, entropy, pressure)
     ends(temperature, entropy)
+    for name, labels in TEMPERATURE.items():
+        same(f"temperature {name}: constants", band("temperature", "fit", name, labels, temperature, lists), [])
     constants = gamma(pressure, lists)
     same("rows of the listing that no table has", [*temperature, *entropy, *pressure], [])
     for where, read in (("specs", spec_lists), ("src", lambda kind: code_lists(kind) | constants.get(kind, {}))):
@@ -243,6 +254,7 @@ def main():
         for key, numbers in lists.items():
             same(f"{where}: {' '.join(key)}", have[key], numbers)
     packing()
+    band_crates.main()
     size = sum(SIZES.values()) + 9 * len(constants)
     print(f"{sum(map(len, lists.values()))} coefficients agree, packed in {size} bytes, a constant counted as nine")
 

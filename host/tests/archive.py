@@ -17,8 +17,8 @@ sys.dont_write_bytecode = True
 sys.path.insert(0, str(ROOT / "tests" / "listing"))
 import blocks
 
-GAMMA = ("tgas1_gamma_low", "tgas1_gamma_middle", "tgas1_gamma_high")
-FILES = [ROOT / "crates" / crate / "src" / "blocks.rt" for crate in ("tgas1_temperature", "tgas2_entropy", *GAMMA)]
+BANDS = [f"tgas1_{what}_{band}" for what in ("temperature", "gamma") for band in ("low", "middle", "high")]
+FILES = [ROOT / "crates" / crate / "src" / "blocks.rt" for crate in ("tgas2_entropy", *BANDS)]
 MOST = 1888 + 1899  # a byte for each number, and four or eight: of temperature and entropy, and of pressure
 # coefficients that other code has too: the weight's unit and its scale; gamma's upper bound, which a comparison takes away
 SHARED = {10**10, 18 * 10**10, -2 * 10**10}
@@ -254,8 +254,8 @@ def pieces():
 
 
 def constants():
-    """the one gamma of each band's first piece: it is in no block and stands as it is"""
-    sources = [(ROOT / "crates" / crate / "src" / "lib.rt").read_text() for crate in GAMMA]
+    """the one gamma of each gamma band's first piece: it is in no block and stands as it is"""
+    sources = [(ROOT / "crates" / crate / "src" / "lib.rt").read_text() for crate in BANDS]
     return [int(number) for text in sources for number in re.findall(r"\bfit: (\d+),", text)]
 
 

@@ -16,6 +16,9 @@ use Rattle.bands.specs.Region.{temperatureIndex, regionOf}
 use Rattle.bands.specs.declared.Band.{Band}
 use Rattle.bands.specs.declared.Band.the-variants.{Low, Middle, High}
 use Rattle.bands.specs.Bands.{bandOf, stripOf}
+use Rattle.tgas1_temperature_low.specs.Pieces.{lowPieces}
+use Rattle.tgas1_temperature_middle.specs.Pieces.{middlePieces}
+use Rattle.tgas1_temperature_high.specs.Pieces.{highPieces}
 use Rattle.tgas1_temperature.specs.Pieces.{temperaturePieces, temperaturePiece}
 use Rattle.air.specs.declared.Logs.{Logs}
 use Rattle.air.specs.Quantities.{isPressure, isDensity}
@@ -36,7 +39,7 @@ raised c law (negsuc g) t = absurd t
 
 -- no temperature piece has a minus transition
 plus-only : (b : Band) → T (allPlus (temperaturePieces b))
-unfolding allPlus temperaturePieces
+unfolding allPlus lowPieces middlePieces highPieces
 plus-only Low = tt
 plus-only Middle = tt
 plus-only High = tt

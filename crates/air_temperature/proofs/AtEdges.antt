@@ -10,7 +10,9 @@ use Rattle.power.specs.Choice.{coarse, middle, fine, strideOf, stepOf, powerOf}
 use Rattle.weight.specs.Choice.{inverse, square, second, third, fourth, fifth, sixth, exponential, share, weightAbove, weightOf}
 use Rattle.quotient.specs.Mul.{mul}
 use Rattle.bicubic.specs.Bicubic.{gas1, gas2, gas3, gas4, bicubic, exponent}
-use Rattle.tgas1_temperature.specs.Pieces.{temperaturePieces}
+use Rattle.tgas1_temperature_low.specs.Pieces.{lowPieces}
+use Rattle.tgas1_temperature_middle.specs.Pieces.{middlePieces}
+use Rattle.tgas1_temperature_high.specs.Pieces.{highPieces}
 use Rattle.perfect.specs.Perfect.{perfectGas}
 use Rattle.air.specs.declared.Edges.the-variants.{Unfitted, Two}
 use Rattle.air.specs.declared.Ends.the-variants.{Unjoined, Both}
@@ -42,5 +44,5 @@ pub record AtEdges : Type 0 where
       (Two (edge (pos 19244837698) (pos 10000000000)) (edge (pos 19747197991) (pos 10000000000)))
 
 pub at-edges : AtEdges
-unfolding temperatureBy heldAt logOf lgOf mantissaOf nearOne chordOf factors factorLogs points rises leadingZeros bicubic gas1 gas2 gas3 gas4 exponent mul temperaturePieces weightOf weightAbove share exponential inverse square second third fourth fifth sixth powerOf stepOf strideOf coarse middle fine perfectGas
+unfolding temperatureBy heldAt logOf lgOf mantissaOf nearOne chordOf factors factorLogs points rises leadingZeros bicubic gas1 gas2 gas3 gas4 exponent mul lowPieces middlePieces highPieces weightOf weightAbove share exponential inverse square second third fourth fifth sixth powerOf stepOf strideOf coarse middle fine perfectGas
 at-edges = record { wide-strip = refl; narrow-strip = refl; two-numbers = refl; perfect = refl; refused = refl }

@@ -15,6 +15,9 @@ use Rattle.bicubic.proofs.Size.{size}
 use Rattle.fit.proofs.Distance.{distanceOf, distances}
 use Rattle.bands.specs.declared.Band.{Band}
 use Rattle.bands.specs.declared.Band.the-variants.{Low, Middle, High}
+use Rattle.tgas1_temperature_low.specs.Pieces.{lowPieces}
+use Rattle.tgas1_temperature_middle.specs.Pieces.{middlePieces}
+use Rattle.tgas1_temperature_high.specs.Pieces.{highPieces}
 use Rattle.tgas1_temperature.specs.Pieces.{temperaturePieces}
 use Rattle.air_temperature.specs.Temperature.{pieceAt}
 use Rattle.air_temperature.specs.Claim.{exactTemperatureFit}
@@ -27,12 +30,12 @@ temperatureDistances Middle = 63 ∷ 664 ∷ 776 ∷ 1895 ∷ []  -- 360 to 390
 temperatureDistances High = 29 ∷ 159 ∷ 1667 ∷ []  -- 410 to 430
 
 pub temperature-distances : (b : Band) → distances inUnits tolerance (temperatureReach b) (temperaturePieces b) ≡ temperatureDistances b
-unfolding distances distanceOf size boxes temperaturePieces
+unfolding distances distanceOf size boxes lowPieces middlePieces highPieces
 temperature-distances Low = refl
 temperature-distances Middle = refl
 temperature-distances High = refl
 
 -- ---- no distance below 100 can be promised: Y = -6,987,999 and Z = 399,583, label 310, which has no transition
 pub not-within-99 : (n : ℕ) → Within 99 (fitted (pieceAt (negℤ (pos 6987999)) (pos 399583)) (negℤ (pos 6987999)) (pos 399583) (pos 0)) (exactTemperatureFit n (negℤ (pos 6987999)) (pos 399583)) → ⊥
-unfolding mul bicubic gas1 gas2 gas3 gas4 exactBicubic exactGas1 exactGas2 exactGas3 exactGas4 temperaturePieces
+unfolding mul bicubic gas1 gas2 gas3 gas4 exactBicubic exactGas1 exactGas2 exactGas3 exactGas4 lowPieces middlePieces highPieces
 not-within-99 n h = h .high .le

@@ -18,6 +18,9 @@ use Rattle.bands.specs.declared.Band.{Band}
 use Rattle.bands.specs.declared.Band.the-variants.{Low, Middle, High}
 use Rattle.bands.specs.Bands.{bandOf}
 use Rattle.bands.specs.Region.{temperatureEnds, temperatureIndex}
+use Rattle.tgas1_temperature_low.specs.Pieces.{lowPieces}
+use Rattle.tgas1_temperature_middle.specs.Pieces.{middlePieces}
+use Rattle.tgas1_temperature_high.specs.Pieces.{highPieces}
 use Rattle.tgas1_temperature.specs.Pieces.{temperaturePieces}
 use Rattle.air_temperature.specs.Temperature.{pieceAt}
 use Rattle.air_temperature.specs.Claim.{exactTemperatureFit, fitDistance}
@@ -34,7 +37,7 @@ abbrev pub temperatureReach : Band → List Box
 temperatureReach = reach (pos 250000) temperatureEnds (λ b. pos 3000000)
 
 passes : (b : Band) → T (allPass inUnits fitDistance tolerance (temperatureReach b) (temperaturePieces b))
-unfolding allPass distanceOf size boxes allWhole temperaturePieces
+unfolding allPass distanceOf size boxes allWhole lowPieces middlePieces highPieces
 passes Low = tt
 passes Middle = tt
 passes High = tt

@@ -8,7 +8,7 @@ use Rattle.logarithm.specs.Choice.{factors, factorLogs, points, rises, chordOf,
 use Rattle.power.specs.Choice.{coarse, middle, fine, strideOf, stepOf, powerOf}
 use Rattle.quotient.specs.Mul.{mul}
 use Rattle.bicubic.specs.Bicubic.{gas1, gas2, gas3, gas4, bicubic, exponent}
-use Rattle.tgas1_temperature.specs.Pieces.{temperaturePieces}
+use Rattle.tgas1_temperature_high.specs.Pieces.{highPieces}
 use Rattle.tgas1_gamma_low.specs.Pieces.{lowPieces}
 use Rattle.tgas1_gamma_middle.specs.Pieces.{middlePieces}
 use Rattle.perfect.specs.Perfect.{perfectGas}
@@ -54,7 +54,7 @@ standard-entropy =
     (record { no-10 = tt; no-11 = tt; by-logs = tt; by-fit = unfitted })
 
 pub fitted-temperature : Covered 1 320433595305 D0
-unfolding answerBy temperatureBy heldAt logOf lgOf mantissaOf nearOne chordOf factors factorLogs points rises leadingZeros bicubic gas1 gas2 gas3 gas4 mul temperaturePieces powerOf stepOf strideOf coarse middle fine Accepted
+unfolding answerBy temperatureBy heldAt logOf lgOf mantissaOf nearOne chordOf factors factorLogs points rises leadingZeros bicubic gas1 gas2 gas3 gas4 mul highPieces powerOf stepOf strideOf coarse middle fine Accepted
 fitted-temperature =
     covered 1 320433595305 D0
     (Shows letterT (record { triple = true; x = pos 500000; y = pos 0; z = pos 500000 }) (One (record { fit = pos 4961733650; weight = pos 0 })) Unjoined (pos 856197990)) refl

@@ -5,7 +5,9 @@ use mathlib.Core.Path.{_≡_, refl}
 use lib.IntN.{pos}
 use Rattle.quotient.specs.Mul.{mul}
 use Rattle.bicubic.specs.Bicubic.{gas1, gas2, gas3, gas4, bicubic}
-use Rattle.tgas1_temperature.specs.Pieces.{temperaturePieces}
+use Rattle.tgas1_temperature_low.specs.Pieces.{lowPieces}
+use Rattle.tgas1_temperature_middle.specs.Pieces.{middlePieces}
+use Rattle.tgas1_temperature_high.specs.Pieces.{highPieces}
 use Rattle.perfect.specs.Perfect.{perfectGas}
 use Rattle.air.specs.declared.Answer.{Answer}
 use Rattle.air.specs.Quantities.{P0, D0, E0}
@@ -28,5 +30,5 @@ unfolding IsAnswer
 s-row a h = entropy.standard-value (held a) h
 
 pub proof-table : AllHold proofTable
-unfolding bicubic gas1 gas2 gas3 gas4 mul temperaturePieces
+unfolding bicubic gas1 gas2 gas3 gas4 mul lowPieces middlePieces highPieces
 proof-table = (refl, (refl, (refl, (e-row, (t-row, (s-row, (refl, (refl, (refl, (refl, (refl, (refl, tt))))))))))))

@@ -16,8 +16,7 @@ pub fn fit_in(band: Band, y: i64, z: i64) -> Edge
     requires { ⌜ PlaceReady y z ⌝ }
     ensures { λ r. ⌜ r ≡ edgeBy chosen (temperaturePiece band (temperatureIndex band z)) y z ⌝ }
 {
-    let i = bands::piece_index(band, z);
-    tgas1_temperature::piece(band, i, y, z)
+    tgas1_temperature::fit(band, y, z)
 }
 
 // Whether a fit gets 13.

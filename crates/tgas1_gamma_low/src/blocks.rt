@@ -1,4 +1,4 @@
-// TGAS1's gamma, low band, packed: of each block the bytes and the words. tests/listing/pack.py prints this file.
+// TGAS1's gamma, low band, packed: of each block the bytes and the words. tests/listing/band_crates.py prints this file.
 
 // Label 100, GAS1 to GAS4.
 pub const LOW2_A_BYTES: [u8; 10] = [1, 4, 7, 10, 12, 14, 16, 19, 22, 25];
