@@ -3,6 +3,7 @@ use air::Answer;
 use air::Edges;
 use air::Ends;
 use air::Logs;
+use answers::Taken;
 use bands::Strip;
 ghost use mathlib.Core.Path.{_≡_};
 ghost use mathlib.Core.Option.{some};
@@ -75,18 +76,8 @@ fn entropy_from(logs: Logs) -> Answer
 pub fn entropy(e: u64, d: u64) -> Answer
     ensures { λ r. ⌜ held r ≡ heldBy chosen (some entropyProperty) e d ⌝ }
 {
-    if !answers::within(7840840, 1000000000000, e) {
-        return Answer::Refused(10);
+    match answers::energy_logs(e, d) {
+        Taken::Beyond(n) => Answer::Refused(n),
+        Taken::Carried(logs) => entropy_from(logs),
     }
-    if !answers::within(12920, 129200000000000, d) {
-        return Answer::Refused(11);
-    }
-    let y = log10::log10_ratio(d, 129200000000);
-    let z = log10::log10_ratio(e, 78408400);
-    entropy_from(Logs {
-        triple: false,
-        x: 0,
-        y,
-        z,
-    })
 }

@@ -3,6 +3,7 @@ use air::Answer;
 use air::Edges;
 use air::Ends;
 use air::Logs;
+use answers::Taken;
 use bands::Strip;
 ghost use mathlib.Core.Path.{_≡_};
 ghost use mathlib.Core.Option.{some};
@@ -50,22 +51,8 @@ fn pressure_from(e: u64, d: u64, logs: Logs) -> Answer
 pub fn pressure(e: u64, d: u64) -> Answer
     ensures { λ r. ⌜ held r ≡ heldBy chosen (some pressureProperty) e d ⌝ }
 {
-    if !answers::within(7840840, 1000000000000, e) {
-        return Answer::Refused(10);
+    match answers::energy_logs(e, d) {
+        Taken::Beyond(n) => Answer::Refused(n),
+        Taken::Carried(logs) => pressure_from(e, d, logs),
     }
-    if !answers::within(12920, 129200000000000, d) {
-        return Answer::Refused(11);
-    }
-    let y = log10::log10_ratio(d, 129200000000);
-    let z = log10::log10_ratio(e, 78408400);
-    pressure_from(
-        e,
-        d,
-        Logs {
-            triple: false,
-            x: 0,
-            y,
-            z,
-        },
-    )
 }

@@ -3,6 +3,7 @@ use air::Answer;
 use air::Edges;
 use air::Ends;
 use air::Logs;
+use answers::Taken;
 use bands::Band;
 use bands::Region;
 use bands::Strip;
@@ -73,22 +74,8 @@ fn temperature_from(p: u64, d: u64, logs: Logs) -> Answer
 pub fn temperature(p: u64, d: u64) -> Answer
     ensures { λ r. ⌜ held r ≡ heldBy chosen (some temperatureProperty) p d ⌝ }
 {
-    if !answers::within(1, 100000000000000000, p) {
-        return Answer::Refused(10);
+    match answers::pressure_logs(p, d) {
+        Taken::Beyond(n) => Answer::Refused(n),
+        Taken::Carried(logs) => temperature_from(p, d, logs),
     }
-    if !answers::within(12920, 129200000000000, d) {
-        return Answer::Refused(11);
-    }
-    let x = log10::log10_ratio(p, 101330000000);
-    let y = log10::log10_ratio(d, 129200000000);
-    temperature_from(
-        p,
-        d,
-        Logs {
-            triple: true,
-            x,
-            y,
-            z: x - y,
-        },
-    )
 }

@@ -1,83 +1,40 @@
--- `pressure::pressure` tests the ranges, takes the logarithms and follows them.
-use mathlib.Core.Bool.{true}
-use mathlib.Core.Path.{_≡_, sym, _∙_}
-use Prim.Native.Nat.{_^_, _<_}
-use native.Mathlib.Omega.{arith}
+-- `pressure::pressure` takes the logarithms and follows them.
+use mathlib.Core.Path.{_≡_, ap, _∙_}
 use borrow.Author.Needs.{needs}
-use borrow.Author.Tests.{not-true, not-false}
-use lib.Dec.{lit<}
-use mir.Syntax.{w64}
-use mir.Val.{toZ, ofZ}
-use Rattle.integer.specs.Tests.{is-true}
-use Rattle.logarithm.specs.Choice.{logOf}
-use Rattle.integer.proofs.Machine.{back-ok}
-use Rattle.air.specs.Quantities.{D0, E0, within, isEnergy, isDensity}
+use Rattle.air.specs.declared.Logs.{Logs}
 use Rattle.air.specs.Choices.{chosen}
-use Rattle.air.proofs.Tests.{at-least}
-use Rattle.air.proofs.Lawful.{lawful, energy-logs}
-use Rattle.air.proofs.Sound.{first-refused, second-refused, both-in-range}
+use Rattle.air_pressure.specs.Property.{pressureBy}
+use Rattle.answers.specs.declared.Taken.the-variants.{Carried}
+use Rattle.answers.proofs.Verdicts.{EnergyCarried, energy-refused, energy-carried}
 use Rattle.pressure.proofs.pressure.Statement.{statement}
 use Rattle.pressure.proofs.pressure.Tie as tie
 
--- ---- the ranges
-energy : (c : tie.Else1) → isEnergy (c .before .before .args .e) ≡ true
-energy c = sym (c .before .within .ensures) ∙ not-false _ (c .if1 .left)
+energy-logs-requires : tie.Need-energy-logs-requires
+energy-logs-requires c κs = search needs
 
-density : (c : tie.Else2) → isDensity (c .before .before .before .before .args .d) ≡ true
-density c = sym (c .before .within2 .ensures) ∙ not-false _ (c .if2 .left)
+enum-known-n : tie.Need-enum-known-n
+enum-known-n c = search needs
 
--- ---- the logarithms
-y-is : (c : tie.After-log10-ratio) → toZ w64 (ofZ w64 (c .log10-ratio .result)) ≡ logOf (c .before .before .before .before .before .args .d) D0
-y-is c = back-ok (c .log10-ratio .result) (c .log10-ratio .ok) ∙ c .log10-ratio .ensures .0
+enum-known-logs : tie.Need-enum-known-logs
+enum-known-logs c = search needs
 
-z-is : (c : tie.After-log10-ratio2) → toZ w64 (ofZ w64 (c .log10-ratio2 .result)) ≡ logOf (c .before .before .before .before .before .before .args .e) E0
-z-is c = back-ok (c .log10-ratio2 .result) (c .log10-ratio2 .ok) ∙ c .log10-ratio2 .ensures .0
-
-within-requires : tie.Need-within-requires
-within-requires c κs = search needs
-
-returns : tie.Need-returns
-returns c =
-    let s = c .before .before in
-    first-refused 11 (isEnergy (s .args .e)) (isDensity (s .args .d)) _ (sym (c .before .within .ensures) ∙ not-true _ (c .if1 .taken))
-
-within-requires-2 : tie.Need-within-requires-2
-within-requires-2 c κs = search needs
-
-returns-2 : tie.Need-returns-2
-returns-2 c =
-    let s = c .before .before .before .before in
-    second-refused 11 (isEnergy (s .args .e)) (isDensity (s .args .d)) _ (energy (c .before .before)) (sym (c .before .within2 .ensures) ∙ not-true _ (c .if2 .taken))
-
-log10-ratio-requires : tie.Need-log10-ratio-requires
-log10-ratio-requires c κs = (omega (arith, at-least 12920 129200000000000 (c .before .before .before .before .args .d) (density c)), lit< tt)
-
-log10-ratio-requires-2 : tie.Need-log10-ratio-requires-2
-log10-ratio-requires-2 c κs = (omega (arith, at-least 7840840 (10 ^ 12) (c .before .before .before .before .before .args .e) (energy (c .before .before .before))), lit< tt)
+carried : (c : tie.After-energy-logs) (l : Logs) → c .energy-logs .result ≡ Carried l → EnergyCarried (c .before .args .e) (c .before .args .d) l
+carried c l e = energy-carried (c .before .args .e) (c .before .args .d) (c .energy-logs .ensures) e
 
 pressure-from-requires : tie.Need-pressure-from-requires
 pressure-from-requires c κs =
-    let s = c .before .before .before .before .before .before in
-    let a = is-true (energy (c .before .before .before .before)) in
-    let b = is-true (density (c .before .before)) in
-    rw (y-is (c .before), z-is c) (record { energy = a; density = b; taken = energy-logs chosen lawful (s .args .e) (s .args .d) a b })
+    let r = carried (c .before .before .before) _ (c .before .logs .given .1) in record { energy = r .energy; density = r .density; taken = r .taken }
 
-returns-3 : tie.Need-returns-3
-returns-3 c =
-    let d = c .before in
-    let s = d .before .before .before .before .before .before in
-    (rw (y-is (d .before), z-is d) at (c .pressure-from .ensures))
-    ∙ both-in-range 11 (isEnergy (s .args .e)) (isDensity (s .args .d)) _ (energy (d .before .before .before .before)) (density (d .before .before))
+returns : tie.Need-returns
+returns c =
+    let a = c .before .before .before in
+    energy-refused (a .before .args .e) (a .before .args .d) (a .energy-logs .ensures) (c .before .n .given .1) _
+
+returns-2 : tie.Need-returns-2
+returns-2 c =
+    let a = c .before .before .before .before in
+    let r = carried a _ (c .before .before .logs .given .1) in
+    c .pressure-from .ensures ∙ ap (pressureBy chosen (a .before .args .e) (a .before .args .d)) (r .same) ∙ r .shown _
 
 pub pressure-spec : {M : Type 1} → statement M
-pressure-spec =
-    tie.close
-    (tie.spec
-    within-requires
-    returns
-    within-requires-2
-    returns-2
-    log10-ratio-requires
-    log10-ratio-requires-2
-    pressure-from-requires
-    returns-3)
+pressure-spec = tie.close (tie.spec energy-logs-requires enum-known-n enum-known-logs pressure-from-requires returns returns-2)
