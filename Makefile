@@ -77,11 +77,11 @@ run:
 PC_PREFIX ?= $(PREFIX)
 MAN1 = $(wildcard man/*.1)
 MAN3 = $(wildcard man/*.3)
-DOCUMENTS = $(wildcard README.md CHANGELOG.md docs/*.md docs/*.svg)
+DOCUMENTS = $(wildcard README.md CHANGELOG.md crates/README.md host/README.md docs/*.md docs/*.svg docs/landings/*.md)
 
 install: all
 	install -d $(addprefix $(DESTDIR), $(BINDIR) $(INCLUDEDIR) $(LIBDIR)/pkgconfig $(MANDIR)/man1 $(MANDIR)/man3 \
-		$(DOCDIR)/docs $(DOCDIR)/examples $(DATADIR)/samples)
+		$(DOCDIR)/examples $(DATADIR)/samples)
 	install -m 644 include/airstate.h $(DESTDIR)$(INCLUDEDIR)/airstate.h
 	install -m 644 $(STATIC) $(DESTDIR)$(LIBDIR)/libairstate.a
 	install -m 755 $(SHARED) $(DESTDIR)$(LIBDIR)/libairstate.so.$(VERSION)
@@ -94,8 +94,7 @@ install: all
 	+@$(HOST) install-tools TO=$(DESTDIR)$(BINDIR)
 	install -m 644 $(MAN1) $(DESTDIR)$(MANDIR)/man1
 	install -m 644 $(MAN3) $(DESTDIR)$(MANDIR)/man3
-	install -m 644 $(filter-out docs/%, $(DOCUMENTS)) $(DESTDIR)$(DOCDIR)
-	install -m 644 $(filter docs/%, $(DOCUMENTS)) $(DESTDIR)$(DOCDIR)/docs
+	for d in $(DOCUMENTS); do install -D -m 644 $$d $(DESTDIR)$(DOCDIR)/$$d || exit 1; done
 	install -m 644 host/tools/example.c $(DESTDIR)$(DOCDIR)/examples
 	install -m 644 $(wildcard host/samples/*.csv host/samples/*.eas) $(DESTDIR)$(DATADIR)/samples
 

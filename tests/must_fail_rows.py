@@ -1,44 +1,91 @@
-"""docs/MUST-FAIL.md tells of every must-fail edit, once and under its crate, the fact that it breaks. Neither it nor the checklist's
-document names an edit that is not there. An edit has no line that rt passes over: what it replaces, and by what, is one line each."""
+"""Prints the last section of docs/MUST-FAIL.md from the comments of the must-fail edits: a row an edit, under its crate in the
+order of crates.txt, with the wrong program and, behind `Breaks:`, the fact that it breaks. With --write the section is written,
+else it must be as printed. No edit has a line that rt passes over, no document names an edit that is not there, and a crate with
+many functions has few edits."""
 
 import re
 import sys
 from pathlib import Path
 
 ROOT = Path(__file__).resolve().parent.parent
+PAGE, CHECKLIST = ROOT / "docs" / "MUST-FAIL.md", ROOT / "docs" / "CHECKLIST.md"
+LARGE, MOST = 12, 4  # each edit costs its whole crate: one of more functions than the first has at most the second of edits
+TITLE = "## Every edit\n"
+HEAD = """
+The first error that the prover prints for an edit is the fact in its row: a statement that is false for the wrong program, not a
+proof that no longer fits it. This was read from the prover's output, edit by edit; the gate sees only that each is refused.
+`python3 tests/must_fail_rows.py --write` prints this section from the comments of the edits.
+"""
 
 
-def told():
-    """(crate, label) of each row below the heading of the last section"""
-    crate, rows = None, []
-    for line in (ROOT / "docs" / "MUST-FAIL.md").read_text().split("## Every edit", 1)[1].splitlines():
-        if heading := re.fullmatch(r"\*\*(\w+)\*\*", line):
-            crate = heading[1]
-        elif (row := re.match(r"\| (\w+) \| \S", line)) and row[1] != "edit":
-            rows.append((crate, row[1]))
-    return rows
+def crates():
+    """all crates, in the order of crates.txt"""
+    lines = (ROOT / "crates.txt").read_text().splitlines()
+    return [line.split(":", 1)[0] for line in lines if ":" in line and not line.startswith("#")]
 
 
-def passed_over(path):
-    """the lines of an edit that are no comment and say nothing to rt"""
-    return [line for line in path.read_text().splitlines() if not re.match(r"#|file: |old: |new: ?", line)]
+def told(path):
+    """what the comment of an edit says: the wrong program, and the fact that it breaks"""
+    edit, lines = f"{path.parts[-3]}/{path.stem}", path.read_text().splitlines()
+    if passed := [line for line in lines if not re.match(r"#|file: |old: |new: ?", line)]:
+        sys.exit(f"{edit} has a line that rt passes over: {passed[0]}")
+    comment = " ".join(line[1:].strip() for line in lines if line.startswith("#"))
+    if not (parts := re.fullmatch(r"([^a-z].*[.]) Breaks: (\S.*[^.])", comment)):
+        sys.exit(f"{edit}: its comment is not a sentence that tells the wrong program, then `# Breaks: ` and the fact")
+    return parts.groups()
 
 
-def main():
-    for path in (ROOT / "crates").glob("*/must-fail/*.edit"):
-        if lines := passed_over(path):
-            sys.exit(f"{path.parts[-3]}/{path.stem} has a line that is passed over: {lines[0]}")
-    edits = sorted((path.parts[-3], path.stem) for path in (ROOT / "crates").glob("*/must-fail/*.edit"))
-    rows = told()
-    for crate, label in sorted(set(edits) ^ set(rows)):
-        print(f"{crate}/{label}: " + ("no row" if (crate, label) in edits else "no such edit"))
-    texts = (ROOT / "docs" / "MUST-FAIL.md").read_text().split("## Every edit")[0], (ROOT / "docs" / "CHECKLIST.md").read_text()
-    for crate, label in re.findall(r"(?<![\w/])([a-z0-9_]+)/([a-z0-9_]+)(?![\w/])", "".join(texts)):
-        if (ROOT / "crates" / crate).is_dir() and (crate, label) not in edits:
-            sys.exit(f"{crate}/{label} is named and is no edit")
-    if sorted(rows) != edits:
-        sys.exit("rows and edits differ")
-    print(f"{len(rows)} edits told")
+def read():
+    """the edits of each crate, label by label"""
+    found = {}
+    for path in sorted((ROOT / "crates").glob("*/must-fail/*.edit")):
+        found.setdefault(path.parts[-3], {})[path.stem] = told(path)
+    if unlisted := set(found) - set(crates()):
+        sys.exit(f"{min(unlisted)} has edits and is not in crates.txt")
+    return found
 
 
-main()
+def section(edits):
+    parts = [TITLE, HEAD]
+    for crate in crates():
+        if crate in edits:
+            rows = [f"| {label} | {wrong} | {fact} |\n" for label, (wrong, fact) in edits[crate].items()]
+            parts.append(f"\n**{crate}**\n\n| edit | wrong program | fact that it breaks |\n|---|---|---|\n{''.join(rows)}")
+    return "".join(parts)
+
+
+def unknown(edits, upper):
+    """what the page above the section and the checklist name as edits, and is none"""
+    named = r"(?<![\w/.])([a-z][a-z0-9_]*)/([a-z0-9_]+)(?![\w/])"
+    pairs = re.findall(named, upper)
+    pairs += [(crate, label) for crate, label in re.findall(named, CHECKLIST.read_text()) if (ROOT / "crates" / crate).is_dir()]
+    return [f"{crate}/{label} is named and is no edit" for crate, label in pairs if label not in edits.get(crate, {})]
+
+
+def over_budget(edits):
+    """the large crates with too many edits"""
+    faults = []
+    for crate, labels in edits.items():
+        code = "".join(path.read_text() for path in (ROOT / "crates" / crate / "src").glob("*.rt"))
+        functions = len(re.findall(r'^ *(?:pub )?(?:extern "C" )?fn \w', code, re.M))
+        if functions > LARGE and len(labels) > MOST:
+            faults.append(f"{crate} has {functions} functions and {len(labels)} edits; over {LARGE} functions allow {MOST} edits")
+    return faults
+
+
+def main(*words):
+    if words not in ((), ("--write",)):
+        sys.exit(__doc__)
+    edits = read()
+    upper = PAGE.read_text().split(TITLE)[0]
+    if words:
+        PAGE.write_text(upper + section(edits))
+    faults = unknown(edits, upper) + over_budget(edits)
+    if PAGE.read_text() != upper + section(edits):
+        faults.append("docs/MUST-FAIL.md is not as printed: python3 tests/must_fail_rows.py --write")
+    if faults:
+        sys.exit("\n".join(faults))
+    print(f"{sum(len(labels) for labels in edits.values())} edits told")
+
+
+main(*sys.argv[1:])

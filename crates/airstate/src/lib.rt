@@ -25,9 +25,9 @@ ghost use Rattle.mark.specs.Mark.{markOf};
 ghost use Rattle.calculator.specs.Search.{locate, searchBy};
 ghost use Rattle.flat.specs.Flat.{flat};
 ghost use Rattle.flat_parts.specs.Flat.{flatFound, flatRemark, flatText, flatMark};
-ghost use Rattle.airstate.specs.Allowed.{IsFlatSearch, IsFlatAnswer, IsFlatMark, IsFlatLine, IsFlatListing, IsFlatStep};
+ghost use Rattle.c_laws.specs.Allowed.{IsFlatSearch, IsFlatAnswer, IsFlatMark, IsFlatLine, IsFlatListing, IsFlatStep};
 ghost use Rattle.name_room.specs.Read.{readIn};
-ghost use Rattle.airstate.specs.Texts.{lineIn, listingIn};
+ghost use Rattle.c_laws.specs.Texts.{lineIn, listingIn};
 
 // The sheet's number: 0, 1 to 6, 16.
 #[no_mangle]
@@ -62,7 +62,7 @@ pub extern "C" fn eas_record_at(sheet: &[u8], i: usize) -> CRecord
     flat_parts::flatten_found(sheet_walk::record_at(sheet, i))
 }
 
-// The answer for a spelled name. Demand 3 of it is `FlatDemand3` (specs/Demand3).
+// The answer for a spelled name. Demand 3 of it is `FlatDemand3` (c_laws/specs/Demand3).
 #[no_mangle]
 pub extern "C" fn eas_search(sheet: &[u8], spelled: &[u8]) -> CAnswer
     ensures { λ r. ⌜ r ≡ flat (searchBy chosen (now (sheet .entry)) (now (spelled .entry))) ⌝ }
@@ -83,7 +83,7 @@ pub extern "C" fn eas_evaluate(kind: u32, first: u64, second: u64) -> CAnswer
     flat::flatten(evaluate::evaluate(kind as u8, first, second))
 }
 
-// The plot mark of a spelled name. That both doubles are exact is `PlotExact` (specs/Plot).
+// The plot mark of a spelled name. That both doubles are exact is `PlotExact` (c_laws/specs/Plot).
 #[no_mangle]
 pub extern "C" fn eas_plot(sheet: &[u8], spelled: &[u8]) -> CMark
     ensures { λ r. ⌜ r ≡ flatMark (markOf (searchBy chosen (now (sheet .entry)) (now (spelled .entry)))) ⌝ }
@@ -130,7 +130,7 @@ pub extern "C" fn eas_read(spelled: &[u8], out: &mut [u8]) -> CText
     flat_parts::flatten_text(name_room::read(spelled, out))
 }
 
-// A sheet of version 1 in version 2, with empty remarks, in lent room. What is kept of the sheet is `FlatForward` (specs/Converted).
+// A sheet of version 1 in version 2, with empty remarks, in lent room. What is kept of the sheet is `FlatForward` (c_laws/specs/Converted).
 #[no_mangle]
 pub extern "C" fn eas_forward(sheet: &[u8], out: &mut [u8]) -> CText
     ensures { λ r. ⌜ r ≡ flatText (outcomeOf (forward (now (sheet .entry)) (length (now (out .entry))))) ⌝ }
@@ -139,7 +139,7 @@ pub extern "C" fn eas_forward(sheet: &[u8], out: &mut [u8]) -> CText
     flat_parts::flatten_text(convert::forward(sheet, out))
 }
 
-// A sheet of version 2 whose remarks are empty in version 1, in lent room. What is kept of the sheet is `FlatBack` (specs/Converted).
+// A sheet of version 2 whose remarks are empty in version 1, in lent room. What is kept of the sheet is `FlatBack` (c_laws/specs/Converted).
 #[no_mangle]
 pub extern "C" fn eas_back(sheet: &[u8], out: &mut [u8]) -> CText
     ensures { λ r. ⌜ r ≡ flatText (outcomeOf (back (now (sheet .entry)) (length (now (out .entry))))) ⌝ }
@@ -156,7 +156,7 @@ pub extern "C" fn eas_begin(sheet: &[u8]) -> Begun
     walk::begin(sheet)
 }
 
-// The listing line of a walk's next record, in lent room, and the walk after it. That no add disturbs it is `FlatUndisturbed` (specs/Growing).
+// The listing line of a walk's next record, in lent room, and the walk after it. That no add disturbs it is `FlatUndisturbed` (c_laws/specs/Growing).
 #[no_mangle]
 pub extern "C" fn eas_next(sheet: &[u8], walk: Walk, out: &mut [u8]) -> Step
     ensures { λ r. ⌜ r ≡ stepOf walk (stepped chosen (now (sheet .entry)) walk (length (now (out .entry)))) ⌝ }
@@ -166,7 +166,7 @@ pub extern "C" fn eas_next(sheet: &[u8], walk: Walk, out: &mut [u8]) -> Step
     walk::take_step(sheet, walk, out)
 }
 
-// A sheet of version 2 with one state more, in lent room. What is kept of the sheet is `FlatAdd` (specs/Growing).
+// A sheet of version 2 with one state more, in lent room. What is kept of the sheet is `FlatAdd` (c_laws/specs/Growing).
 #[no_mangle]
 pub extern "C" fn eas_add(
     sheet: &[u8],

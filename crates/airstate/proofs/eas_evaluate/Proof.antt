@@ -9,7 +9,7 @@ use Rattle.air.specs.Held.{refuses}
 use Rattle.state.specs.State.{propertyOf, answerBy}
 use Rattle.air.specs.Property.{heldBy}
 use Rattle.flat.specs.Flat.{flat}
-use Rattle.airstate.proofs.Allowed.{state-made}
+use Rattle.c_laws.proofs.Allowed.{answer-made}
 use borrow.Author.Needs.{needs}
 use Rattle.airstate.proofs.eas_evaluate.Statement.{statement}
 use Rattle.airstate.proofs.eas_evaluate.Tie as tie
@@ -22,7 +22,7 @@ no-answer k v w h = sym (ap (λ (x : Kind). heldBy chosen (propertyOf x) v w) (n
 returns-2 : tie.Need-returns-2
 returns-2 c =
     let e = c .flatten2 .ensures ∙ ap flat (c .before .evaluate .ensures .0) in
-    (e, state-made flat _ _ _ _ e)
+    (e, answer-made _ _ _ _ e)
 
 flatten-requires : tie.Need-flatten-requires
 flatten-requires c κs = search needs
@@ -31,7 +31,7 @@ returns : tie.Need-returns
 returns c =
     let s = c .before .before in
     let e = c .flatten .ensures ∙ ap flat (no-answer (s .args .kind) (s .args .first) (s .args .second) (omega arith)) in
-    (e, state-made flat _ _ _ _ e)
+    (e, answer-made _ _ _ _ e)
 
 cast-evaluate : tie.Need-cast-evaluate
 cast-evaluate c = search needs

@@ -1,7 +1,7 @@
 -- `airstate::eas_line` flattens what the line gives; the room is as the line leaves it.
 use mathlib.Core.Path.{_≡_, ap, _∙_}
 use Rattle.flat_parts.specs.Flat.{flatText}
-use Rattle.airstate.proofs.Allowed.{line-made}
+use Rattle.c_laws.proofs.Allowed.{line-made}
 use borrow.Author.Needs.{needs}
 use Rattle.airstate.proofs.eas_line.Statement.{statement}
 use Rattle.airstate.proofs.eas_line.Tie as tie

@@ -1,7 +1,7 @@
 -- `airstate::eas_list` flattens what the listing gives; the room is as the listing leaves it.
 use mathlib.Core.Path.{_≡_, ap, _∙_}
 use Rattle.flat_parts.specs.Flat.{flatText}
-use Rattle.airstate.proofs.Allowed.{listing-made}
+use Rattle.c_laws.proofs.Allowed.{listing-made}
 use borrow.Author.Needs.{needs}
 use Rattle.airstate.proofs.eas_list.Statement.{statement}
 use Rattle.airstate.proofs.eas_list.Tie as tie

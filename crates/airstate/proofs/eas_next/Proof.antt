@@ -1,5 +1,5 @@
 -- `airstate::eas_next` takes a step, whose line is made of an answer that is allowed.
-use Rattle.airstate.proofs.Allowed.{step-made}
+use Rattle.c_laws.proofs.Allowed.{step-made}
 use borrow.Author.Needs.{needs}
 use Rattle.airstate.proofs.eas_next.Statement.{statement}
 use Rattle.airstate.proofs.eas_next.Tie as tie

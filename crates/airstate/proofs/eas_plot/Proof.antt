@@ -2,8 +2,8 @@
 use mathlib.Core.Path.{_≡_, sym, ap, _∙_, subst}
 use Rattle.mark.specs.Mark.{markOf, CanDraw}
 use Rattle.flat_parts.specs.Flat.{flatMark}
-use Rattle.airstate.proofs.Plot.{search-shown}
-use Rattle.airstate.proofs.Allowed.{search-made}
+use Rattle.c_laws.proofs.Plot.{search-shown}
+use Rattle.c_laws.proofs.Allowed.{mark-made}
 use borrow.Author.Needs.{needs}
 use Rattle.airstate.proofs.eas_plot.Statement.{statement}
 use Rattle.airstate.proofs.eas_plot.Tie as tie
@@ -20,7 +20,7 @@ flatten-mark-requires c κs = search needs
 returns : tie.Need-returns
 returns c =
     let e = c .flatten-mark .ensures ∙ ap flatMark (c .before .mark-of .ensures ∙ ap markOf (c .before .before .search .ensures .0)) in
-    (e, search-made (λ h. flatMark (markOf h)) _ _ _ e)
+    (e, mark-made _ _ _ e)
 
 pub eas-plot-spec : {M : Type 1} → statement M
 eas-plot-spec = tie.close (tie.spec search-requires mark-of-requires flatten-mark-requires returns)

@@ -20,7 +20,7 @@ use Rattle.walk.specs.Walk.{begunBy, stepped}
 use Rattle.flat.specs.Flat.{flat}
 use Rattle.flat_parts.specs.declared.CRecord.{CRecord}
 use Rattle.flat_parts.specs.Flat.{flatFound, flatRemark, flatMark}
-use Rattle.airstate.specs.Texts.{lineIn, listingIn}
+use Rattle.c_laws.specs.Texts.{lineIn, listingIn}
 
 -- a record without the place of its name
 abbrev pub placeless : CRecord → CRecord

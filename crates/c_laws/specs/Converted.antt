@@ -11,7 +11,7 @@ use Rattle.calculator.specs.Remarks.{SameAnswers}
 use Rattle.flat_parts.specs.declared.CText.{CText}
 use Rattle.flat_parts.specs.declared.CPart.{CPart}
 use Rattle.flat_parts.specs.Flat.{flatRemark, flatText}
-use Rattle.airstate.specs.Remarks.{SameForC}
+use Rattle.c_laws.specs.Remarks.{SameForC}
 
 -- two remarks that are both empty, or refused by one number: their places are left aside
 pub record BothEmpty (a b : CPart) : Type 0 where

@@ -35,8 +35,8 @@ use Rattle.walk.specs.Walk.{begunBy, stepped, stepOf, walkAfter}
 use Rattle.walk.specs.declared.Walk.{Walk}
 use Rattle.walk.proofs.Undisturbed.{Front, front-self, same-step, front-after, counted}
 use Rattle.flat_parts.specs.Flat.{flatFound, flatRemark, flatText}
-use Rattle.airstate.specs.Growing.{SameSearch, NewSearch, Joined, FlatAdd, Call, next, add, sheetOn, Got, gets, onlyNext, FlatUndisturbed, WalkLine}
-use Rattle.airstate.proofs.Rooms.{told-text, in-room}
+use Rattle.c_laws.specs.Growing.{SameSearch, NewSearch, Joined, FlatAdd, Call, next, add, sheetOn, Got, gets, onlyNext, FlatUndisturbed, WalkLine}
+use Rattle.c_laws.proofs.Rooms.{told-text, in-room}
 
 -- ---- searches of a sheet that grew
 module _ (s t name : List ℕ) (kind first second : ℕ) (g : Grown s t name kind first second) where

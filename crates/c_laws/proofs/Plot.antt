@@ -19,7 +19,7 @@ use Rattle.calculator.specs.Search.{locate, answerAt, searchBy}
 use Rattle.flat_parts.specs.Flat.{flatMark}
 use Rattle.flat.specs.Back.{bit, heldIn}
 use Rattle.flat.proofs.Back.{settled, back}
-use Rattle.airstate.specs.Plot.{Points, PlotExact}
+use Rattle.c_laws.specs.Plot.{Points, PlotExact}
 
 at-shown : (f : Lookup) → CanDraw (answerAt chosen f)
 at-shown (Miss n) = tt

@@ -28,9 +28,9 @@ use Rattle.calculator.specs.Search.{locateName, locate}
 use Rattle.calculator.proofs.Remarks.{same-answers}
 use Rattle.calculator.proofs.Replies.{same-reply}
 use Rattle.flat_parts.specs.Flat.{flatRemark}
-use Rattle.airstate.specs.Converted.{Kept, KeptBy, FlatForward, FlatBack}
-use Rattle.airstate.proofs.Remarks.{same-for-c}
-use Rattle.airstate.proofs.Rooms.{in-room}
+use Rattle.c_laws.specs.Converted.{Kept, KeptBy, FlatForward, FlatBack}
+use Rattle.c_laws.proofs.Remarks.{same-for-c}
+use Rattle.c_laws.proofs.Rooms.{in-room}
 
 -- what a search finds in a sheet without a remark has none
 module _ (s : List ℕ) (rs : List Record) (e : sheetOf s ≡ records rs) (n : NoRemark s rs) where

@@ -13,7 +13,7 @@ use Rattle.flat.specs.declared.CAnswer.{CAnswer}
 use Rattle.flat.specs.Flat.{flat}
 use Rattle.flat.specs.Back.{heldIn}
 use Rattle.flat.proofs.Back.{settled, back}
-use Rattle.airstate.specs.Demand3.{FlatAccepted, FlatDemand3}
+use Rattle.c_laws.specs.Demand3.{FlatAccepted, FlatDemand3}
 
 -- a state is accepted by its logarithms and fits alone
 accepted-held : (o : Option Property) (v w : ℕ) (h : Held) → AcceptedAny o v w (settled h) → AcceptedAny o v w h

@@ -16,7 +16,7 @@ use Rattle.calculator.specs.Demand3.{Answered}
 use Rattle.flat.specs.declared.CAnswer.{CAnswer}
 use Rattle.flat.specs.Flat.{flat}
 use Rattle.flat.specs.Back.{heldIn}
-use Rattle.airstate.specs.Allowed.{IsFlatSearch}
+use Rattle.c_laws.specs.Allowed.{IsFlatSearch}
 
 -- document 01, below the table: no condition of the state row applies, 12, 13 and 17 judged by what the struct carries, refused or not
 abbrev pub FlatAccepted : Record → CAnswer → Type 0

@@ -29,7 +29,7 @@ use Rattle.flat.specs.Flat.{flat}
 use Rattle.flat_parts.specs.declared.CRecord.{CRecord}
 use Rattle.flat_parts.specs.Flat.{flatFound, flatRemark, flatMark}
 use Rattle.flat_parts.proofs.FoundPart.{found-part}
-use Rattle.airstate.specs.Remarks.{placeless, SameRecord, SameForC, FlatRemarksAside, FoundRemark}
+use Rattle.c_laws.specs.Remarks.{placeless, SameRecord, SameForC, FlatRemarksAside, FoundRemark}
 
 -- a reply as C takes it, without a place
 abbrev flatReply : Reply → CRecord

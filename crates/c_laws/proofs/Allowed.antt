@@ -32,23 +32,38 @@ use Rattle.walk.specs.declared.Step.{Step}
 use Rattle.walk.specs.Walk.{lineAt, stepBy, stepped, stepOf}
 use Rattle.walk.specs.Allowed
 use Rattle.walk.specs.Allowed.{IsStep}
+use Rattle.mark.specs.Mark.{markOf}
+use Rattle.flat.specs.declared.CAnswer.{CAnswer}
+use Rattle.flat.specs.Flat.{flat}
+use Rattle.flat_parts.specs.declared.CMark.{CMark}
 use Rattle.flat_parts.specs.declared.CText.{CText}
-use Rattle.flat_parts.specs.Flat.{flatText}
-use Rattle.airstate.specs.Texts.{lineIn, listingIn}
-use Rattle.airstate.specs.Allowed.{MadeOf, IsFlatLine, IsFlatListing, IsFlatStep}
+use Rattle.flat_parts.specs.Flat.{flatMark, flatText}
+use Rattle.c_laws.specs.Texts.{lineIn, listingIn}
+use Rattle.c_laws.specs.Allowed.{MadeOf, IsFlatAnswer, IsFlatSearch, IsFlatMark, IsFlatLine, IsFlatListing, IsFlatStep}
 
 -- whatever is made of the program's answer to a state, or to a search
-pub state-made : {A : Type 0} (make : Held → A) (kind first second : ℕ) (x : A) → x ≡ make (answerBy chosen kind first second)
+of-state : {A : Type 0} (make : Held → A) (kind first second : ℕ) (x : A) → x ≡ make (answerBy chosen kind first second)
     → MadeOf (IsAnswer kind first second) (λ a. make (held a)) x
-state-made make kind first second x e =
+of-state make kind first second x e =
     let h = state chosen kind first second in
     record { from = h .answer; allowed = allowed chosen lawful kind first second (h .answer) (h .holds); is = e ∙ sym (ap make (h .holds)) }
 
-pub search-made : {A : Type 0} (make : Held → A) (sheet spelling : List ℕ) (x : A) → x ≡ make (searchBy chosen sheet spelling)
+of-search : {A : Type 0} (make : Held → A) (sheet spelling : List ℕ) (x : A) → x ≡ make (searchBy chosen sheet spelling)
     → MadeOf (IsSearch sheet spelling) (λ a. make (held a)) x
-search-made make sheet spelling x e =
+of-search make sheet spelling x e =
     let h = searched chosen sheet spelling in
     record { from = h .answer; allowed = search-allowed chosen lawful sheet spelling (h .answer) (h .holds); is = e ∙ sym (ap make (h .holds)) }
+
+-- the struct of an answer, to a state and to a search, and a mark
+pub answer-made : (kind first second : ℕ) (c : CAnswer) → c ≡ flat (answerBy chosen kind first second) → IsFlatAnswer kind first second c
+answer-made kind first second c e = of-state flat kind first second c e
+
+module _ (sheet spelling : List ℕ) where
+  pub search-made : (c : CAnswer) → c ≡ flat (searchBy chosen sheet spelling) → IsFlatSearch sheet spelling c
+  search-made c e = of-search flat sheet spelling c e
+
+  pub mark-made : (c : CMark) → c ≡ flatMark (markOf (searchBy chosen sheet spelling)) → IsFlatMark sheet spelling c
+  mark-made c e = of-search (λ h. flatMark (markOf h)) sheet spelling c e
 
 -- a line, and a listing, in lent room
 module _ (sheet names room last : List ℕ) (c : CText) where
@@ -56,7 +71,7 @@ module _ (sheet names room last : List ℕ) (c : CText) where
   line-made e w =
       record {
         text = lineIn (length room) sheet names;
-        allowed = search-made (λ h. fitting (length room) (line names h)) sheet names (lineIn (length room) sheet names) refl;
+        allowed = of-search (λ h. fitting (length room) (line names h)) sheet names (lineIn (length room) sheet names) refl;
         is = e;
         holds = w;
       }
