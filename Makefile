@@ -66,7 +66,7 @@ $(SHARED): $(STATIC) host/airstate.map
 		-Wl,--whole-archive $(STATIC) -Wl,--no-whole-archive $(LIBS) -o $@
 
 tools: $(STATIC)
-	@$(HOST) tools
+	+@$(HOST) tools
 
 run:
 	@host/prove.sh listing >&2

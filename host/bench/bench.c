@@ -15,9 +15,9 @@
 #include <time.h>
 #include <unistd.h>
 
-#include "baseline.h"
+#include "plain/baseline.h"
+#include "plain/tgas.h"
 #include "random.h"
-#include "tgas.h"
 #include "tools/record.h"
 
 enum { REPETITIONS = 9, NAMES = 3000, SEED = 20260101 };
@@ -313,6 +313,8 @@ static double plain_program(void) {
 static int be_the_listing(void) {
     FILE *file = fopen("sheet.eas", "rb");
     size_t n = file ? fread(small_sheet, 1, sizeof small_sheet, file) : 0;
+    if (file)
+        fclose(file);
     size_t length = fread(name_list, 1, sizeof name_list, stdin);
     baseline_listing(small_sheet, n, name_list, length, stdout);
     return 0;
@@ -381,7 +383,8 @@ static void measure(const row *r) {
 
 static void write_file(const char *path, const uint8_t *bytes, size_t n) {
     FILE *file = fopen(path, "wb");
-    if (!file || fwrite(bytes, 1, n, file) != n || fclose(file))
+    size_t written = file ? fwrite(bytes, 1, n, file) : 0;
+    if (!file || fclose(file) || written != n)
         exit(1);
 }
 
@@ -478,5 +481,6 @@ int main(int argc, char **argv) {
     measure_rows();
     if (argc > 2)
         measure_program(argv[2]);
+    fclose(nowhere);
     return 0;
 }

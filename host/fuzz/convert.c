@@ -2,8 +2,8 @@
 
 #include <string.h>
 
-#include "bench/baseline.h"
 #include "guard.h"
+#include "plain/baseline.h"
 #include "tools/convert.h"
 #include "tools/record.h"
 

@@ -21,8 +21,8 @@ void guard_make(guard *g) {
     size_t page = (size_t)sysconf(_SC_PAGESIZE), size = (ROOM_MOST + BEFORE + page - 1) / page * page;
     uint8_t *pages = mmap(NULL, size + 2 * page, PROT_READ | PROT_WRITE, MAP_PRIVATE | MAP_ANONYMOUS, -1, 0);
     require(pages != MAP_FAILED, "pages for a buffer");
-    mprotect(pages, page, PROT_NONE);
-    mprotect(pages + page + size, page, PROT_NONE);
+    require(mprotect(pages, page, PROT_NONE) == 0 && mprotect(pages + page + size, page, PROT_NONE) == 0,
+            "untouchable pages");
     g->start = pages + page;
     g->end = g->start + size;
     memset(g->start, MARK, size);

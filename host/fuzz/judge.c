@@ -2,8 +2,8 @@
 
 #include <math.h>
 
-#include "bench/tgas.h"
 #include "guard.h"
+#include "plain/tgas.h"
 
 /* Doubles decide what they can: a logarithm by free answer one with this much added for libm's own error. */
 static const double SLACK = 1e-5;

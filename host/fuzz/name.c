@@ -4,8 +4,8 @@
  * call gives the same; a written spelling reads back to its name and is the only one that is written for it. */
 #include <string.h>
 
-#include "bench/baseline.h"
 #include "guard.h"
+#include "plain/baseline.h"
 #include "tools/record.h"
 
 static guard input_guard, output_guard, name_guard;

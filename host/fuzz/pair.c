@@ -2,9 +2,9 @@
 
 #include <string.h>
 
-#include "bench/baseline.h"
 #include "guard.h"
 #include "judge.h"
+#include "plain/baseline.h"
 #include "same.h"
 #include "tools/record.h"
 

@@ -17,12 +17,12 @@
 #include <stdlib.h>
 #include <string.h>
 
-#include "bench/baseline.h"
 #include "convert.h"
 #include "growth.h"
 #include "guard.h"
 #include "judge.h"
 #include "pair.h"
+#include "plain/baseline.h"
 #include "same.h"
 #include "tools/limits.h"
 #include "tools/record.h"

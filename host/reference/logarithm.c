@@ -89,7 +89,8 @@ int logarithm_compare(ratio_logarithm *l, int64_t whole) {
 }
 
 bool logarithm_allowed(ratio_logarithm *l, int64_t taken) {
-    if (taken < -100 * MILLION || taken > 100 * MILLION)
+    const int64_t most = 100 * (int64_t)MILLION;
+    if (taken < -most || taken > most)
         return false;
     return logarithm_compare(l, taken - 1) > 0 && logarithm_compare(l, taken + 1) < 0;
 }

@@ -174,7 +174,7 @@ int64_t numeral_units(const char *numeral) {
         digits = 10 * digits + (*at - '0');
         after_point += point;
     }
-    int power = (*at == 'E' ? atoi(at + 1) : 0) - after_point + 10;
+    long power = (*at == 'E' ? strtol(at + 1, NULL, 10) : 0) - after_point + 10;
     for (; power > 0; power--)
         digits *= 10;
     for (; power < 0; power++) {

@@ -109,11 +109,15 @@ static uint32_t search(const parsed_sheet *parsed, const uint8_t *sheet, const u
 eas_record sheet_find(const parsed_sheet *parsed, const uint8_t *sheet, const uint8_t *spelled, size_t m) {
     size_t place;
     uint32_t number = search(parsed, sheet, spelled, m, &place);
-    return number != 0 ? (eas_record){.number = number} : parsed->records[place];
+    if (number != 0)
+        return (eas_record){.number = number};
+    return parsed->records[place];
 }
 
 eas_part sheet_remark(const parsed_sheet *parsed, const uint8_t *sheet, const uint8_t *spelled, size_t m) {
     size_t place;
     uint32_t number = search(parsed, sheet, spelled, m, &place);
-    return number != 0 ? (eas_part){.number = number} : parsed->remarks[place];
+    if (number != 0)
+        return (eas_part){.number = number};
+    return parsed->remarks[place];
 }

@@ -380,7 +380,7 @@ void compare_conversions(uint64_t seed, uint64_t count) {
     static tried_sheet sheet;
     random_source edges = random_case(seed, CONVERT_PART, count);
     lent_open(&sheet_lent, SHEET_ROOM);
-    lent_open(&out_lent, 2 * SHEET_ROOM);
+    lent_open(&out_lent, 2 * (size_t)SHEET_ROOM);
     compare_fixed(&edges, &sheet);
     compare_versions(&edges, &sheet);
     compare_lengths(&edges, &sheet);

@@ -28,7 +28,7 @@ static const uint8_t *lend(random_source *r, const uint8_t *input, size_t n) {
 
 /* Rooms around a length, and others. */
 static size_t choose_room(random_source *r, size_t length, size_t most) {
-    size_t rooms[] = {length, length - (length > 0), length + 1, most, random_below(r, ROOM_MAX), 0};
+    const size_t rooms[] = {length, length - (length > 0), length + 1, most, random_below(r, ROOM_MAX), 0};
     return rooms[random_below(r, 6)];
 }
 

@@ -143,7 +143,7 @@ int main(int count, char **arguments) {
     tally_start("distances", seed);
     for (int of = 0; of < FITTED; of++) {
         printf("  %s: distances from the exact fit, %" PRId64 " allowed\n",
-               of == TEMPERATURE ? "G of a temperature" : "gamma of a pressure", distance_allowed(of));
+               of == TEMPERATURE ? "G of a temperature" : "gamma of a pressure", distance_allowed((fitted_property)of));
         printf("  %5s %9s %7s %8s %9s %9s %9s %9s %9s %9s\n", "label", "fits", "|B|", "largest", "at Y", "at Z",
                "within 2", "within 10", "apart, 2", "apart, 10");
         for (int i = 0; i < BANDS * PIECES; i++)

@@ -282,13 +282,12 @@ static void compare(const air_state *s) {
         compare_perfect(s, &a);
 }
 
-/* A group of a piece that some band has. */
+/* All but the groups of a property's places at which no band has a piece; these stand behind its first group. */
 static bool exists(int index) {
-    int i = index - FITTED_GROUP;
-    if (i < 0 || i % FITTED_GROUPS == 0)
+    int i = index - FITTED_GROUP, behind = i % FITTED_GROUPS;
+    if (behind <= 0)
         return true;
-    int piece = i % FITTED_GROUPS - 1;
-    return printed_pieces[i / FITTED_GROUPS][piece / PIECES][piece % PIECES].label != 0;
+    return printed_pieces[i / FITTED_GROUPS][(behind - 1) / PIECES][(behind - 1) % PIECES].label != 0;
 }
 
 static void print_groups(void) {

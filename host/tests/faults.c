@@ -29,6 +29,7 @@
 #include "reference/sheet.h"
 #include "tools/record.h"
 
+/* The linker's --wrap gives these names. NOLINTBEGIN(bugprone-reserved-identifier) */
 eas_answer __real_eas_search(const uint8_t *sheet, size_t n, const uint8_t *spelled, size_t m);
 eas_answer __real_eas_evaluate(uint32_t kind, uint64_t first, uint64_t second);
 eas_mark __real_eas_plot(const uint8_t *sheet, size_t n, const uint8_t *spelled, size_t m);
@@ -49,12 +50,13 @@ eas_text __wrap_eas_back(const uint8_t *sheet, size_t n, uint8_t *out, size_t ro
 eas_step __wrap_eas_next(const uint8_t *sheet, size_t n, eas_walk walk, uint8_t *out, size_t room);
 eas_text __wrap_eas_add(const uint8_t *sheet, size_t n, const uint8_t *spelled, size_t m, uint32_t kind, uint64_t first,
                         uint64_t second, uint8_t *out, size_t room);
+/* NOLINTEND(bugprone-reserved-identifier) */
 
 static const int64_t ONE = 10000000000;
 
 static int fault(void) {
     const char *number = getenv("FAULT");
-    return number ? atoi(number) : 0;
+    return number ? (int)strtol(number, NULL, 10) : 0;
 }
 
 static bool has_fault(const char *entry) {
@@ -269,9 +271,10 @@ eas_text __wrap_eas_forward(const uint8_t *sheet, size_t n, uint8_t *out, size_t
 }
 
 eas_text __wrap_eas_back(const uint8_t *sheet, size_t n, uint8_t *out, size_t room) {
-    static uint8_t bare[SHEET_MOST];
     eas_text converted = __real_eas_back(sheet, n, out, room);
-    if (fault() == 11 && has_fault("back") && converted.number == EAS_REMARK_NOT_EMPTY)
+    if (fault() == 11 && has_fault("back") && converted.number == EAS_REMARK_NOT_EMPTY) {
+        static uint8_t bare[SHEET_MOST];
         return __real_eas_back(bare, put_with_remarks(bare, sheet, 0), out, room);
+    }
     return fault() == 10 && has_fault("back") ? lose_last_state(out, converted) : converted;
 }

@@ -88,8 +88,8 @@ static void reach_if(bool there, int what) {
 void growth_open(void) {
     lent_open(&sheet_lent, SHEET_ROOM);
     lent_open(&spelling_lent, SHEET_ROOM);
-    lent_open(&line_lent, 2 * LINE_MAX_BYTES);
-    lent_open(&made_lent, 2 * SHEET_ROOM);
+    lent_open(&line_lent, 2 * (size_t)LINE_MAX_BYTES);
+    lent_open(&made_lent, 2 * (size_t)SHEET_ROOM);
 }
 
 growing_sheet growth_lend(random_source *r, const tried_sheet *sheet, const parsed_sheet *parsed) {

@@ -91,6 +91,7 @@ try_tree() {
     done
     expect "$1: airstate(3)" has_page "$tree" 3 airstate
     expect "$1: documents" test -s "$tree/share/doc/airstate/README.md" -a -s "$tree/share/doc/airstate/docs/FORMAT.md"
+    expect "$1: links of the documents" python3 tests/documents.py "$tree/share/doc/airstate"
 }
 
 left_over() {

@@ -1,22 +1,20 @@
 #include "lent.h"
 
-#include <stdio.h>
-#include <stdlib.h>
 #include <string.h>
 #include <sys/mman.h>
 #include <unistd.h>
+
+#include "tally.h"
 
 enum { MARKED_BYTES = 64, MARK = 0xA5 };
 
 void lent_open(lent_buffer *l, size_t largest) {
     size_t page = (size_t)sysconf(_SC_PAGESIZE);
     size_t usable = (largest + MARKED_BYTES + page - 1) / page * page;
-    uint8_t *all = mmap(NULL, usable + 2 * page, PROT_NONE, MAP_PRIVATE | MAP_ANONYMOUS, -1, 0);
-    if (all == MAP_FAILED || mprotect(all + page, usable, PROT_READ | PROT_WRITE) != 0) {
-        perror("lent buffer");
-        exit(2);
-    }
-    l->first = all + page;
+    l->first = mmap(NULL, usable + 2 * page, PROT_NONE, MAP_PRIVATE | MAP_ANONYMOUS, -1, 0);
+    if (l->first == MAP_FAILED || mprotect(l->first + page, usable, PROT_READ | PROT_WRITE) != 0)
+        tally_stop("lent buffer");
+    l->first += page;
     l->end = l->first + usable;
     l->bytes = l->end;
     l->size = 0;

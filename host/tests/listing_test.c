@@ -20,28 +20,23 @@ static name_list list;
 static parsed_sheet parsed;
 static listing_text expected, got, told;
 
-static void fail(const char *what) {
-    perror(what);
-    exit(2);
-}
-
 static void write_file(const char *name, const uint8_t *bytes, size_t n) {
     FILE *file = fopen(name, "wb");
     if (file == NULL || fwrite(bytes, 1, n, file) != n || fclose(file) != 0)
-        fail(name);
+        tally_stop(name);
 }
 
 static void read_file(const char *name, listing_text *text) {
     FILE *file = fopen(name, "rb");
     if (file == NULL)
-        fail(name);
+        tally_stop(name);
     text->n = fread(text->bytes, 1, sizeof text->bytes, file);
     fclose(file);
 }
 
 static void redirect(const char *name, int flags, int to) {
     int from = open(name, flags, 0600);
-    if (from < 0 || dup2(from, to) < 0)
+    if (from < 0 || dup2(from, to) < 0 || close(from) != 0)
         _exit(126);
 }
 
@@ -49,7 +44,7 @@ static void redirect(const char *name, int flags, int to) {
 static bool run(void) {
     pid_t child = fork();
     if (child < 0)
-        fail("fork");
+        tally_stop("fork");
     if (child == 0) {
         redirect("names", O_RDONLY, STDIN_FILENO);
         redirect("lines", O_WRONLY | O_CREAT | O_TRUNC, STDOUT_FILENO);
@@ -59,7 +54,7 @@ static bool run(void) {
     }
     int status;
     if (waitpid(child, &status, 0) != child)
-        fail("waitpid");
+        tally_stop("waitpid");
     read_file("lines", &got);
     read_file("told", &told);
     return WIFEXITED(status) && WEXITSTATUS(status) < 126;
@@ -110,7 +105,7 @@ int main(int count, char **arguments) {
     uint64_t seed = count > 2 ? strtoull(arguments[2], NULL, 10) : 20260101;
     uint64_t cases = count > 3 ? strtoull(arguments[3], NULL, 10) : 2000;
     if (program == NULL || mkdtemp(folder) == NULL || chdir(folder) != 0)
-        fail(arguments[1]);
+        tally_stop(arguments[1]);
     tally_start("listing_test", seed);
     compare_edges();
     for (uint64_t i = 0; i < cases; i++) {
@@ -126,6 +121,6 @@ int main(int count, char **arguments) {
     unlink("lines");
     unlink("told");
     if (chdir("/") != 0 || rmdir(folder) != 0)
-        fail(folder);
+        tally_stop(folder);
     return tally_end();
 }

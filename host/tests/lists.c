@@ -53,10 +53,10 @@ static void append_line(listing_text *out, const tried_sheet *sheet, const uint8
 
 /* Document 01, Listing program: the sheet first, then the list's length, then a line for each name. */
 void work_out_listing(listing_text *out, const parsed_sheet *parsed, const tried_sheet *sheet, const name_list *list) {
-    char refused[32];
     size_t start = 0;
     out->n = 0;
     if (parsed->number != 0) {
+        char refused[32];
         append(out, refused, (size_t)snprintf(refused, sizeof refused, "sheet ! %" PRIu32 "\n", parsed->number));
         return;
     }

@@ -137,8 +137,9 @@ static int64_t logarithm(uint64_t over, uint64_t under) {
 
 /* The weight of an exponent that is 0 or more. */
 static long double positive_weight(long double q, bool minus) {
-    long double term = 1.0L, sum = expl(q);
+    long double sum = expl(q);
     if (made == SERIES_TOO_SHORT) {
+        long double term = 1.0L;
         sum = 1.0L;
         for (int j = 1; j <= 10; j++)
             sum += term *= q / j;
@@ -324,8 +325,8 @@ static wide join(density_strip strip, int64_t y, wide low, wide high) {
 static eas_edge edge_at(fitted_property of, const eas_answer *a, int64_t y) {
     int64_t z = made == EDGE_TAKES_OWN_Z ? a->x - y : a->z;
     const fit_piece *piece = chosen_piece(of, made == EDGE_TAKES_STATES_BAND ? a->y : y, z);
-    int64_t weight = made == EDGE_WEIGHT_TWICE && piece->weighed && y > a->y ? a->low.weight : weight_at(piece, y, z);
-    return fit_with(piece, y, z, weight);
+    bool twice = made == EDGE_WEIGHT_TWICE && piece->weighed && y > a->y;
+    return fit_with(piece, y, z, twice ? a->low.weight : weight_at(piece, y, z));
 }
 
 static bool edges_beyond(fitted_property of, const eas_answer *a) {
@@ -431,7 +432,7 @@ static eas_answer temperature(uint64_t p, uint64_t d) {
 
 static wide plain_entropy(int64_t y, int64_t z) {
     if (z <= ENTROPY_PERFECT_LIMIT - (made == ENTROPY_END_EXCLUDED ? 1 : 0))
-        return 67792004 + divide((5 * (z - 400000) - 2 * (wide)y) * 28706 * 2302585, 20000000000);
+        return 67792004 + divide((5 * (wide)(z - 400000) - 2 * (wide)y) * 28706 * 2302585, 20000000000);
     return divide(28706 * polynomial(entropy_coefficients(band_of(y)), y, z), 100000000);
 }
 

@@ -119,7 +119,7 @@ void compare_pair(random_source *r, sheet_pair *p) {
     const parsed_sheet *parsed = p->parsed[0];
     for (int i = 0; i < 2; i++)
         p->at[i] = lent_input(&lent[i], p->sheet[i]->bytes, p->sheet[i]->n);
-    uint32_t numbers[] = {eas_check(p->at[0], p->sheet[0]->n), eas_check(p->at[1], p->sheet[1]->n)};
+    const uint32_t numbers[] = {eas_check(p->at[0], p->sheet[0]->n), eas_check(p->at[1], p->sheet[1]->n)};
     expect(p, NULL, numbers[0] == numbers[1], "eas_check differs between the sheets");
     expect(p, NULL, numbers[0] == parsed->number && numbers[1] == p->parsed[1]->number, "eas_check's number");
     random_list(&list, r, parsed, p->sheet[0]);

@@ -68,7 +68,10 @@ static void count_join(fitted_property of, strip_reach *reach, const density_str
 /* The last Z of the perfect gas, or of a strip's pressures. */
 static int64_t strip_end(fitted_property of, const density_strip *strip) {
     int64_t ends[MOST_PAIRS];
-    return of == TEMPERATURE ? PERFECT_LIMIT : ends[pair_ends(of, strip, ends) - 1];
+    if (of == TEMPERATURE)
+        return PERFECT_LIMIT;
+    int count = pair_ends(of, strip, ends);
+    return ends[count - 1];
 }
 
 static void count_in_strip(fitted_property of, strip_reach *reach, const density_strip *strip, const eas_answer *a) {

@@ -7,7 +7,7 @@
 #define LENGTH(array) (sizeof(array) / sizeof((array)[0]))
 
 /* Bytes with their number, and a record's two values, 7 and 258. */
-#define BYTES(text) (const uint8_t *)text, sizeof text - 1
+#define BYTES(text) (const uint8_t *)(text), sizeof(text) - 1
 #define VALUES "\0\0\0\0\0\0\0\x07\0\0\0\0\0\0\x01\x02"
 
 void test_numbers(void);

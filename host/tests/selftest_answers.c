@@ -72,10 +72,10 @@ static void must_reject(air_state s, const eas_answer *answer, const char *chang
 static void test_changed_fields(air_state s) {
     eas_answer right = make_answer(NO_MISTAKE, s.kind, s.first, s.second);
     bool flat = right.z <= printed_pieces[PRESSURE][band_of(right.y)][0].upper || right.carries & EAS_CARRIES_HIGH;
-    int log_step = right.number == 12 || right.number == 17 || (right.letter == 'P' && flat) ? 2 : 1;
+    int64_t log_step = right.number == 12 || right.number == 17 || (right.letter == 'P' && flat) ? 2 : 1;
     int64_t kelvin_step = right.value / 50000 + 1;
     bool single = right.low.fit != 0 && !(right.carries & EAS_CARRIES_HIGH);
-    for (int step = -1; step <= 1; step += 2) {
+    for (int64_t step = -1; step <= 1; step += 2) {
         eas_answer a[12];
         for (int i = 0; i < 12; i++)
             a[i] = right;
@@ -158,9 +158,9 @@ static void test_changed_answers(void) {
     for (size_t i = 0; i < LENGTH(rows); i++) {
         for (int64_t z = -900000; z < 3700000; z += 271828) {
             tally_case("changed answers of a row", i);
-            for (uint8_t kind = 1; kind <= LAST_KIND; kind++) {
-                test_changed_fields(state_near(kind, rows[i], z));
-                test_swapped_fields(state_near(kind, rows[i], z));
+            for (int kind = 1; kind <= LAST_KIND; kind++) {
+                test_changed_fields(state_near((uint8_t)kind, rows[i], z));
+                test_swapped_fields(state_near((uint8_t)kind, rows[i], z));
             }
         }
     }

@@ -68,7 +68,7 @@ static void test_additions(void) {
  * come before 19. */
 static void test_long_additions(void) {
     static uint8_t sheet[SHEET_MAX_BYTES] = "EAS\0\2\1\1";
-    for (unsigned i = 0; i < 256; i++) {
+    for (size_t i = 0; i < 256; i++) {
         memcpy(sheet + 7 + 255 * i, (uint8_t[]){2, (uint8_t)i, 'x', 1}, 4);
         sheet[7 + 255 * i + 20] = 234;
     }

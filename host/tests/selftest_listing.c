@@ -30,9 +30,13 @@ static void compare_group(const char *const *ten, int statement, char **words, i
     compare_numerals(ten + first_term[statement], terms[statement], words, given, name);
 }
 
+static int number_of(const char *word) {
+    return (int)strtol(word, NULL, 10);
+}
+
 /* A line of a piece: its numerals, an end, the sign of its transition, or what keeps its exponent. */
 static void compare_piece(const printed_piece *piece, const char *name, char **words, int given) {
-    int gas = strncmp(name, "GAS", 3) == 0 ? atoi(name + 3) : 0;
+    int gas = strncmp(name, "GAS", 3) == 0 ? number_of(name + 3) : 0;
     if (gas >= 1 && gas <= 8)
         compare_group(gas <= 4 ? piece->a : piece->b, (gas - 1) % 4, words, given, name);
     else if (gas == 9)
@@ -63,24 +67,28 @@ static void compare_entropy(int label, const char *name, char **words, int given
     if (strcmp(name, "LIMIT") == 0)
         compare_number(10000 * entropy_limit((density_band)band), words[0], name);
     else
-        compare_group(printed_entropy[band], atoi(name + 3) - 1, words, given, name);
+        compare_group(printed_entropy[band], number_of(name + 3) - 1, words, given, name);
 }
 
 /* of: FITTED for the entropy. */
 static void compare_line(char *line, fitted_property of) {
-    char *words[WORDS] = {strtok(line, " \n")};
+    char *rest, *words[WORDS] = {strtok_r(line, " \n", &rest)};
     int given = 0;
     while (words[given] != NULL && given + 1 < WORDS)
-        words[++given] = strtok(NULL, " \n");
-    if (given == 0 || words[0][0] == '#' || !tally_check(given >= 3, "a line of %d words", given))
+        words[++given] = strtok_r(NULL, " \n", &rest);
+    if (given == 0 || words[0][0] == '#')
         return;
-    int label = atoi(words[0]);
+    tally_check(given >= 3, "a line of %d words", given);
+    if (given < 3)
+        return;
+    int label = number_of(words[0]);
     if (of == FITTED) {
         compare_entropy(label, words[1], words + 2, given - 2);
         return;
     }
     const printed_piece *piece = piece_called(of, label);
-    if (tally_check(piece != NULL, "label %d", label))
+    tally_check(piece != NULL, "label %d", label);
+    if (piece != NULL)
         compare_piece(piece, words[1], words + 2, given - 2);
 }
 

@@ -118,7 +118,7 @@ static void test_pressure_limits(void) {
     tally_case("pressure limits", 0);
     tally_check(gamma_beyond(10100000000) && !gamma_beyond(10100000001), "gamma of 1.01");
     tally_check(!gamma_beyond(19999999999) && gamma_beyond(20000000000), "gamma of 2");
-    for (int side = -1; side <= 1; side += 2)
+    for (wide side = -1; side <= 1; side += 2)
         tally_check(exponent_near_zero(side * 499999999) && !exponent_near_zero(side * 500000000), "0.05 from zero");
     tally_check(exponent_near_zero(0), "an exponent of zero");
     static const struct {
@@ -151,9 +151,9 @@ static void test_logarithms(void) {
         tally_case("logarithm of 3", (uint64_t)taken);
         tally_check(logarithm_allowed(&l, taken) == power_between(3, taken - 1, taken + 1), "against whole powers");
     }
-    for (int tens = -7; tens <= 3; tens++) {
+    for (int64_t tens = -7; tens <= 3; tens++) {
         uint64_t d = D_MIN;
-        for (int i = -7; i < tens; i++)
+        for (int64_t i = -7; i < tens; i++)
             d *= 10;
         logarithm_of(&l, d, D0);
         for (int64_t off = -3; off <= 3; off++) {
@@ -230,7 +230,7 @@ static void test_weight(bool minus, int64_t q) {
     mpq_init(exact);
     for (int i = 0; i < 2; i++) {
         exact_weight(exact, t, terms[i]);
-        for (mpfr_prec_t p = FIRST_WEIGHT_PRECISION; p <= 16 * FIRST_WEIGHT_PRECISION; p *= 4) {
+        for (mpfr_prec_t p = FIRST_WEIGHT_PRECISION; p <= 16 * (mpfr_prec_t)FIRST_WEIGHT_PRECISION; p *= 4) {
             weights_of(&w, t, p);
             tally_check(mpfr_cmp_q(w.low[i], exact) <= 0 && mpfr_cmp_q(w.high[i], exact) >= 0,
                         "bounds of %u terms at %d bits, q %" PRId64, terms[i], (int)p, q);
@@ -310,7 +310,8 @@ static void test_claims(int64_t y) {
             test_kelvin_claim(strip.upper, a.z, a.high.fit, a.high.value);
         test_entropy_claim(a.y, a.z, joined);
     }
-    for (int of = 0; of < FITTED; of++) {
+    for (int i = 0; i < FITTED; i++) {
+        fitted_property of = (fitted_property)i;
         for (int64_t z = fit_start(of) + 10000; z <= fit_limit(of, joined ? strip.upper : y); z += 90000) {
             tally_case("claims on distances", (uint64_t)(z + 1000000000 * (y + 7000000)));
             test_distance_claim(of, joined ? strip.lower : y, z);

@@ -201,7 +201,7 @@ static void test_conversions(void) {
 /* 3,120 records of 20 bytes, of which the last is longer: 62,407 bytes and 65,527 in version 2, and as many more. */
 static void test_long_conversions(void) {
     static uint8_t sheet[62500] = "EAS\0\1\x0c\x30";
-    for (unsigned i = 0; i < 3120; i++)
+    for (size_t i = 0; i < 3120; i++)
         memcpy(sheet + 7 + 20 * i, (uint8_t[]){2, (uint8_t)(i >> 8), (uint8_t)i, 1}, 4);
     for (size_t more = 8; more <= 10; more++) {
         size_t n = 62407 + more;

@@ -24,7 +24,7 @@ typedef struct {
  * number. */
 #define HEAD(version, count) "EAS\0" version "\0" count
 #define RECORD(name, kind) "\1" name kind "PPPPPPPPDDDDDDDD"
-#define SHEET(bytes) (const uint8_t *)bytes, sizeof bytes - 1
+#define SHEET(bytes) (const uint8_t *)(bytes), sizeof(bytes) - 1
 
 /* A sheet that is valid, or has one or two damages; about a third are of version 2. `large` asks for one about as long
  * as a sheet may be: of the most records, or filled by remarks of 255 bytes. */

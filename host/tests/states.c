@@ -1,10 +1,10 @@
 #include "states.h"
 
 #include <math.h>
-#include <stdio.h>
 #include <stdlib.h>
 
 #include "reference/answer.h"
+#include "tally.h"
 
 #define LENGTH(array) (sizeof(array) / sizeof((array)[0]))
 
@@ -106,10 +106,8 @@ static void add(air_state s) {
     if (used == room) {
         room = room == 0 ? 4096 : 2 * room;
         list = realloc(list, room * sizeof list[0]);
-        if (list == NULL) {
-            perror("states");
-            exit(2);
-        }
+        if (list == NULL)
+            tally_stop("states");
     }
     list[used++] = s;
 }
@@ -131,9 +129,9 @@ static void add_around(uint8_t kind, int64_t y, int64_t z) {
 
 static void add_plane_edges(void) {
     for (size_t i = 0; i < LENGTH(y_edges); i++)
-        for (uint8_t kind = 1; kind <= LAST_KIND; kind++)
+        for (int kind = 1; kind <= LAST_KIND; kind++)
             for (size_t j = 0; j < z_edges[kind].count; j++)
-                add_around(kind, y_edges[i], z_edges[kind].z[j]);
+                add_around((uint8_t)kind, y_edges[i], z_edges[kind].z[j]);
 }
 
 /* Where an exponent at one Y passes zero, or what it is kept within, the states at another. */

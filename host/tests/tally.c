@@ -4,6 +4,7 @@
 #include <signal.h>
 #include <stdarg.h>
 #include <stdio.h>
+#include <stdlib.h>
 #include <string.h>
 #include <unistd.h>
 
@@ -80,6 +81,11 @@ void tally_answer(const char *what, const eas_answer *a) {
                " value %" PRId64 " low %" PRId64 " %" PRId64 " %" PRId64 " high %" PRId64 " %" PRId64 " %" PRId64,
                what, a->number, a->letter, a->carries, a->x, a->y, a->z, a->value, a->low.fit, a->low.weight,
                a->low.value, a->high.fit, a->high.weight, a->high.value);
+}
+
+void tally_stop(const char *what) {
+    perror(what);
+    exit(2);
 }
 
 int tally_end(void) {

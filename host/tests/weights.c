@@ -45,17 +45,12 @@ typedef struct {
 static group groups[2][2];
 static term_bounds ideal;
 
-static void fail(const char *what) {
-    perror(what);
-    exit(2);
-}
-
 /* Runs the program on every sweep of both transitions; what it writes is read from the result. */
 static FILE *run(const char *program, pid_t *child) {
     FILE *input = tmpfile();
     int ends[2];
     if (input == NULL || pipe2(ends, O_CLOEXEC) != 0)
-        fail("a pipe to the program");
+        tally_stop("a pipe to the program");
     for (int i = 0; i < 2 * SWEEPS; i++) {
         const sweep *s = &sweeps[i % SWEEPS];
         fprintf(input, "%s %" PRIu64 " %" PRIu64 " %" PRIu64 " s\n", i < SWEEPS ? "plus" : "minus", s->from, s->step,
@@ -72,7 +67,7 @@ static FILE *run(const char *program, pid_t *child) {
     close(ends[1]);
     FILE *output = fdopen(ends[0], "r");
     if (*child < 0 || output == NULL)
-        fail(program);
+        tally_stop(program);
     return output;
 }
 
@@ -104,14 +99,22 @@ static void judge(bool minus, int64_t q, int64_t weight) {
     }
 }
 
+static bool next_is(FILE *from, char wanted) {
+    return fgetc(from) == wanted;
+}
+
 /* A space and a number. */
 static bool next_weight(FILE *from, int64_t *weight) {
-    return fgetc(from) == ' ' && fscanf(from, "%" SCNd64, weight) == 1;
+    char digits[24], *end;
+    if (!next_is(from, ' ') || fscanf(from, "%23[-0-9]", digits) != 1)
+        return false;
+    *weight = strtoll(digits, &end, 10);
+    return *end == 0;
 }
 
 /* A line of the program, which has the label `s`; false where it is not whole. */
 static bool judge_sweep(FILE *from, bool minus, const sweep *s) {
-    bool whole = fgetc(from) == 's' && fgetc(from) == ':';
+    bool whole = next_is(from, 's') && next_is(from, ':');
     for (uint64_t i = 0; whole && i < s->count; i++) {
         int64_t q = (int64_t)(s->from + i * s->step), above, below;
         if (minus && (uint64_t)q < LEAST_MINUS)
@@ -123,7 +126,7 @@ static bool judge_sweep(FILE *from, bool minus, const sweep *s) {
             judge(minus, -q, below);
         }
     }
-    return whole && fgetc(from) == '\n';
+    return whole && next_is(from, '\n');
 }
 
 static void print_groups(void) {
@@ -142,7 +145,7 @@ int main(int count, char **arguments) {
     }
     const char *program = arguments[1];
     if (access(program, X_OK) != 0)
-        fail(program);
+        tally_stop(program);
     bool whole = true;
     pid_t child;
     int status;

@@ -15,7 +15,6 @@ static field field_of(const char *text) {
 static int refuse_state(const char *input, const uint8_t *sheet, size_t n, const char *spelled, uint32_t number) {
     const uint8_t *name = (const uint8_t *)spelled;
     size_t m = strlen(spelled);
-    uint8_t raw[NAME_MOST];
     char more[128] = "";
     if (number == EAS_VERSION_UNKNOWN)
         snprintf(more, sizeof more, ": it is %u, and forward writes it in version 2", sheet_version(sheet));
@@ -23,8 +22,10 @@ static int refuse_state(const char *input, const uint8_t *sheet, size_t n, const
         snprintf(more, sizeof more, ": '%s'", shown(field_of(spelled)));
     if (number == EAS_NAME_REPEATED)
         snprintf(more, sizeof more, ", in record %u", record_at(sheet, eas_find(sheet, n, name, m).start) + 1);
-    if (number == EAS_SHEET_FULL)
+    if (number == EAS_SHEET_FULL) {
+        uint8_t raw[NAME_MOST];
         snprintf(more, sizeof more, ": it would have %zu", length_with(sheet, n, read_spelled(name, m, raw).length, 0));
+    }
     return refuse("%s: refusal %u: %s%s", input, number, eas_reason(number), more);
 }
 

@@ -62,7 +62,7 @@ static void add_lower_case(asked_sheet *sheet, size_t state) {
         s.bytes[i + 1] = (uint8_t)tolower(s.bytes[i + 1]);
         s.bytes[i + 2] = (uint8_t)tolower(s.bytes[i + 2]);
     }
-    if (memcmp(s.bytes, sheet->states[state].spelled.bytes, s.length))
+    if (memcmp(s.bytes, sheet->states[state].spelled.bytes, s.length) != 0)
         add_name(sheet, LOWER_CASE, state, s.bytes, s.length);
 }
 
@@ -137,11 +137,12 @@ static void share_lines(asked_name *names, size_t count, way w, const char *text
 static size_t ask_list(asked_sheet *sheet, size_t first) {
     uint8_t *list = checked(malloc(LIST_MOST));
     size_t m = 0, end = first;
-    for (; end < sheet->count && m + sheet->names[end].length + 1 <= LIST_MOST; end++) {
+    do {
         memcpy(list + m, sheet->names[end].spelled, sheet->names[end].length);
         m += sheet->names[end].length;
         list[m++] = '\n';
-    }
+        end++;
+    } while (end < sheet->count && m + sheet->names[end].length + 1 <= LIST_MOST);
     size_t room = (end - first) * LINE_MOST;
     char *out = checked(malloc(room));
     eas_text text = eas_list(sheet->bytes, sheet->n, list, m, (uint8_t *)out, room);
@@ -179,7 +180,7 @@ void ask_all(asked_sheet *sheet) {
     asked_walk walk = begin_walk(sheet);
     ask_names(sheet);
     while (step_walk(&walk, sheet))
-        continue;
+        ;
     end_walk(&walk, sheet);
 }
 
@@ -198,23 +199,26 @@ static void find_truths(asked_sheet *sheet) {
     }
 }
 
-static int is_refused(const asked_sheet *sheet) {
+/* Reads the sheet; tells why where that cannot be done, or where it is refused as a whole. */
+static bool load(asked_sheet *sheet) {
+    if (load_bytes(sheet->path, sheet->bytes, &sheet->n))
+        return false;
+    sheet_parse(&sheet->parsed, sheet->bytes, sheet->n);
     uint32_t number = eas_check(sheet->bytes, sheet->n), due = sheet->parsed.number;
     if (number != due)
         refuse("%s: the library says \"%s\", right is \"%s\"", sheet->path, eas_reason(number), eas_reason(due));
     else if (number)
         refuse("%s: refusal %u: %s", sheet->path, number, eas_reason(number));
-    return number || due;
+    return !number && !due;
 }
 
 asked_sheet *ask_sheet(const char *path) {
     asked_sheet *sheet = checked(calloc(1, sizeof *sheet));
     sheet->path = path;
-    if (load_bytes(path, sheet->bytes, &sheet->n))
+    if (!load(sheet)) {
+        free(sheet);
         return NULL;
-    sheet_parse(&sheet->parsed, sheet->bytes, sheet->n);
-    if (is_refused(sheet))
-        return NULL;
+    }
     sheet->states = checked(calloc(sheet->parsed.count + 1, sizeof *sheet->states));
     add_names(sheet);
     ask_all(sheet);

@@ -1,6 +1,6 @@
 #include "checklist_judge.h"
 
-#include <inttypes.h>
+#include <errno.h>
 #include <math.h>
 #include <stdlib.h>
 #include <string.h>
@@ -36,13 +36,35 @@ double shown_in_units(const eas_record *record, const shown *s) {
 
 /* ---- what is shown */
 
+/* A space and a number; *at moves past them. False where there is none that fits. */
+static bool read_number(const char **at, int64_t *number) {
+    char *end;
+    if (**at != ' ')
+        return false;
+    errno = 0;
+    *number = strtoll(*at, &end, 10);
+    bool read = end > *at && errno == 0;
+    *at = end;
+    return read;
+}
+
+/* Behind the name, a refusal with its number, or a letter with three numbers. */
 static shown read_line(const listing_line *line) {
     shown s = {.has_z = true};
-    char text[LINE_MOST + 1], letter;
+    char text[LINE_MOST + 1];
+    int64_t number = 0;
     memcpy(text, line->bytes, line->length);
     text[line->length] = 0;
-    s.readable = sscanf(text, "%*s ! %" SCNu32, &s.number) == 1 ||
-                 sscanf(text, "%*s %c %" SCNd64 " %" SCNd64 " %" SCNd64, &letter, &s.y, &s.z, &s.value) == 4;
+    const char *at = strchr(text, ' ');
+    if (!at || !at[1])
+        return s;
+    bool is_refusal = at[1] == '!';
+    at += 2;
+    if (is_refusal)
+        s.readable = read_number(&at, &number) && number >= 0 && number <= UINT32_MAX;
+    else
+        s.readable = read_number(&at, &s.y) && read_number(&at, &s.z) && read_number(&at, &s.value);
+    s.number = s.readable ? (uint32_t)number : 0;
     return s;
 }
 
@@ -78,8 +100,8 @@ static bool is_line(const asked_name *name, const listing_line *line, const eas_
 }
 
 /* How far what is shown is from a value, beyond what a mark's unit leaves, which is rounded down. */
-static double off_by(double shown, double unit, double value) {
-    return fmax(fabs(shown + unit / 2 - value) - unit / 2, 0);
+static double off_by(double value, double unit, double from) {
+    return fmax(fabs(value + unit / 2 - from) - unit / 2, 0);
 }
 
 /* Where the library's answer is wrong: a mark that shows less of it may show what is right. */

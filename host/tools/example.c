@@ -78,18 +78,27 @@ static void print_lines(size_t n) {
         printf("%.*s", (int)step.length, (const char *)line);
 }
 
+/* Reads a file into the sheet; 0 where it cannot be read. */
+static int load(const char *path, size_t *n) {
+    FILE *file = fopen(path, "rb");
+    if (!file)
+        return 0;
+    *n = fread(sheet, 1, sizeof sheet, file);
+    int whole = !ferror(file);
+    fclose(file);
+    return whole;
+}
+
 int main(int argc, char **argv) {
-    FILE *file = argc > 1 ? fopen(argv[1], "rb") : NULL;
-    size_t n = file ? fread(sheet, 1, sizeof sheet, file) : 0;
+    size_t n;
     if (argc < 2) {
         fprintf(stderr, "usage: example SHEET [NAME]...\n");
         return 2;
     }
-    if (!file || ferror(file)) {
+    if (!load(argv[1], &n)) {
         fprintf(stderr, "example: %s: %s\n", argv[1], strerror(errno));
         return 1;
     }
-    fclose(file);
     uint32_t refused = eas_check(sheet, n);
     printf("sheet: %u, %s\n", refused, eas_reason(refused));
     for (int i = 2; i < argc; i++)

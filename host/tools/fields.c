@@ -22,7 +22,7 @@ const char *shown(field f) {
             memset(text + used, '?', length);
         used += length;
     }
-    strcpy(text + used, used < f.length ? "…" : "");
+    snprintf(text + used, sizeof text - used, "%s", used < f.length ? "…" : "");
     return text;
 }
 

@@ -49,7 +49,7 @@ figure *open_cairo(const char *path, double width, double height, bool pdf);
 bool is_figure_path(const char *path);
 
 /* The width of a text as PNG and PDF show it; SVG viewers come near it. */
-double text_width(const char *text, double size, bool bold);
+double text_width(const char *words, double size, bool bold);
 
 /* The fonts, the first that is there. */
 #define FONTS "DejaVu Sans, Verdana, sans-serif"

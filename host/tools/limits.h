@@ -1,5 +1,5 @@
-/* Standards, ranges and limits of the fits, once for the tools, the benchmarks and the fuzz drivers. The reference,
- * which judges the library, has its own. */
+/* Standards, ranges and limits of the fits, once for the tools, the plain calculator, the benchmarks and the fuzz
+ * drivers. The reference, which judges the library, has its own. */
 #ifndef LIMITS_H
 #define LIMITS_H
 

@@ -10,7 +10,7 @@
 #include "fields.h"
 #include "options.h"
 
-enum { COLUMNS = FIRST_GIVEN + GIVEN_COUNT, TEXT_MOST = 1 << 26 };
+enum { COLUMNS = FIRST_GIVEN + GIVEN_COUNT, TEXT_MOST = 1 << 26, READ_AT_ONCE = 65536 };
 
 const char *const headings[FIRST_GIVEN] = {"name", "spelled", "kind", "first", "density", "remark", "remark_spelled"};
 
@@ -173,29 +173,31 @@ static bool has_both(const packing *p, const row *r, const kind_row *kind) {
            (cell(p, r, column_given(kind->second)).length > 0 || cell(p, r, SECOND).length > 0);
 }
 
-/* The first kind whose values the row has, where it has not those of two. */
-static bool derive_kind(packing *p, const row *r, entry *e) {
+/* The first kind whose values the row has, where it has not those of two; else null. */
+static const kind_row *derived_kind(packing *p, const row *r) {
+    const kind_row *first = NULL;
     for (int i = 0; i < KIND_COUNT; i++) {
         const kind_row *kind = &kinds[i];
         if (!has_both(p, r, kind))
             continue;
-        if (e->kind && (e->kind->first != kind->first || e->kind->second != kind->second))
-            return wrong(p, r, "values of two kinds (%s and %s): a column 'kind' must say which is meant",
-                         e->kind->first->heading, kind->first->heading);
-        e->kind = e->kind ? e->kind : kind;
+        if (first && (first->first != kind->first || first->second != kind->second)) {
+            wrong(p, r, "values of two kinds (%s and %s): a column 'kind' must say which is meant",
+                  first->first->heading, kind->first->heading);
+            return NULL;
+        }
+        first = first ? first : kind;
     }
-    return e->kind ? true : wrong(p, r, "no kind, and not %s", wanted_columns());
+    if (!first)
+        wrong(p, r, "no kind, and not %s", wanted_columns());
+    return first;
 }
 
 static bool read_entry_kind(packing *p, const row *r, entry *e) {
     field f = cell(p, r, KIND);
-    e->kind = NULL;
-    if (f.length == 0)
-        return derive_kind(p, r, e);
-    e->kind = named_kind(f);
-    if (!e->kind)
-        return wrong(p, r, "refusal %u: %s: '%s'", EAS_KIND_UNKNOWN, eas_reason(EAS_KIND_UNKNOWN), shown(f));
-    return true;
+    e->kind = f.length > 0 ? named_kind(f) : derived_kind(p, r);
+    if (f.length > 0 && !e->kind)
+        wrong(p, r, "refusal %u: %s: '%s'", EAS_KIND_UNKNOWN, eas_reason(EAS_KIND_UNKNOWN), shown(f));
+    return e->kind != NULL;
 }
 
 /* Reads a quantity from its SI column or, in whole units, from the other. */
@@ -292,15 +294,14 @@ static void take(void *data, const row *r) {
 /* Reads a whole file; null where it cannot be read or is too large. */
 static char *slurp(const char *path, size_t *n) {
     FILE *file = open_input(path);
-    char *text = NULL, *larger;
-    size_t room = 0, got = 1;
+    char *text = NULL;
+    size_t got = 1;
     for (*n = 0; file && got > 0 && *n <= TEXT_MOST; *n += got) {
-        room = *n + 65536;
-        larger = realloc(text, room);
+        char *larger = realloc(text, *n + READ_AT_ONCE);
         if (!larger)
             break;
         text = larger;
-        got = fread(text + *n, 1, room - *n, file);
+        got = fread(text + *n, 1, READ_AT_ONCE, file);
     }
     bool failed = !file || got > 0 || ferror(file);
     if (file && ferror(file))
@@ -330,7 +331,7 @@ int pack_text(const char *name, const char *text, size_t n, uint8_t sheet[SHEET_
 
 int pack(const char *input, const char *output) {
     static uint8_t sheet[SHEET_MOST];
-    size_t n, length;
+    size_t n, length = 0;
     char *text = slurp(input, &n);
     int failed = text ? pack_text(input_name(input), text, n, sheet, &length) : REFUSED;
     free(text);

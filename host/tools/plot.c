@@ -107,12 +107,13 @@ static void lay_out_panels(chart *c) {
         if (p.points > 0)
             c->panels[c->panel_count++] = p;
     }
-    double top = FIRST_PANEL, height = c->panel_count == 1 ? ONLY_PANEL : PANEL;
-    for (unsigned i = 0; i < c->panel_count; i++, top += height + BELOW_PANEL) {
-        c->panels[i].top = top;
-        c->panels[i].bottom = top + height;
+    double height = c->panel_count == 1 ? ONLY_PANEL : PANEL;
+    c->plot_bottom = FIRST_PANEL + 40;
+    for (unsigned i = 0; i < c->panel_count; i++) {
+        c->panels[i].top = FIRST_PANEL + i * (height + BELOW_PANEL);
+        c->panels[i].bottom = c->panels[i].top + height;
+        c->plot_bottom = c->panels[i].bottom + 64;
     }
-    c->plot_bottom = c->panel_count > 0 ? top - BELOW_PANEL + 64 : FIRST_PANEL + 40;
     c->list_top = fmax(LIST_TOP, TITLE + LEGEND_PITCH * legend_lines(c) - 2);
 }
 

@@ -124,22 +124,28 @@ static void draw_tick_up(figure *f, const panel *p, double value, const char *te
 static void draw_logarithmic_ticks(figure *f, const panel *p) {
     static const int digits[] = {1, 2, 3, 5, 7}, least[] = {1, 3, 5, 3, 5}; /* each where there are at least so many */
     int ticks = p->up.high < 200 * p->up.low ? 5 : p->up.high < 1e6 * p->up.low ? 3 : 1;
-    for (double decade = pow(10, floor(log10(p->up.low))); decade < p->up.high; decade *= 10)
+    for (int power = (int)floor(log10(p->up.low)); pow(10, power) < p->up.high; power++)
         for (int i = 0; i < 5; i++) {
-            double value = digits[i] * decade;
+            double value = digits[i] * pow(10, power);
             if (value > p->up.low && value < p->up.high && ticks >= least[i])
-                draw_tick_up(f, p, value, tick_text(value, decade));
+                draw_tick_up(f, p, value, tick_text(value, pow(10, power)));
         }
 }
 
+static void draw_even_ticks(figure *f, const panel *p) {
+    double step = tick_step(&p->up, 9);
+    for (int i = (int)ceil(p->up.low / step); i * step <= p->up.high; i++)
+        draw_tick_up(f, p, i * step, tick_text(i * step, step));
+}
+
 static void draw_grid(figure *f, const chart *c, const panel *p) {
-    double across = tick_step(&c->across, 12), up = tick_step(&p->up, 9);
-    for (double i = ceil(c->across.low / across); i * across <= c->across.high; i++)
-        draw_tick_across(f, c, p, i * across, across);
+    double step = tick_step(&c->across, 12);
+    for (int i = (int)ceil(c->across.low / step); i * step <= c->across.high; i++)
+        draw_tick_across(f, c, p, i * step, step);
     if (p->up.logarithmic)
         draw_logarithmic_ticks(f, p);
-    for (double i = ceil(p->up.low / up); !p->up.logarithmic && i * up <= p->up.high; i++)
-        draw_tick_up(f, p, i * up, tick_text(i * up, up));
+    else
+        draw_even_ticks(f, p);
 }
 
 static void draw_frame(figure *f, const panel *p) {

@@ -180,8 +180,9 @@ static size_t fill_columns(size_t from, box b, int columns) {
     int lines = (int)floor(b.h / PITCH);
     for (int i = 0; i < columns * lines && from < row_count; i++) {
         list_row *r = &rows[from];
-        point at = {b.x + i / lines * (column_width + GAP), b.y + (i % lines + 1) * PITCH};
-        bool at_top = i % lines == 0, at_end = (i + 1) % lines == 0;
+        int column = i / lines, line = i % lines;
+        point at = {b.x + column * (column_width + GAP), b.y + (line + 1) * PITCH};
+        bool at_top = line == 0, at_end = line + 1 == lines;
         if (at_top && r->length == 0) {
             from++;
             i--;

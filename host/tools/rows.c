@@ -65,8 +65,8 @@ static size_t line_length(const char *text, size_t n) {
     return at < n ? at + 1 : n;
 }
 
-/* The first byte of a line that is neither space nor tab, or 0 where it is blank. */
-static char first_byte(const char *line, size_t n) {
+/* The first byte of a line that is neither space nor tab, or 0 where it is blank; a zero byte is given as 1. */
+static int first_byte(const char *line, size_t n) {
     for (size_t at = 0; at < n; at++)
         if (!strchr(" \t\r\n", line[at]) || line[at] == 0)
             return line[at] == 0 ? 1 : line[at];
@@ -91,7 +91,7 @@ static int parse(const char *name, const char *text, size_t n, struct csv_parser
     unsigned long line = 1;
     for (size_t length; n > 0; text += length, n -= length, line++) {
         length = line_length(text, n);
-        char first = first_byte(text, length);
+        int first = first_byte(text, length);
         if (!r->open && (first == 0 || (first == '#' && r->taker->comments)))
             continue;
         if (!r->open)

@@ -10,6 +10,6 @@ const char *samples_folder(void) {
     ssize_t n = readlink("/proc/self/exe", folder, PATH_MAX);
     char *slash = n > 0 ? memrchr(folder, '/', (size_t)n) : NULL;
     if (slash)
-        strcpy(slash, installed);
+        memcpy(slash, installed, sizeof installed);
     return slash && access(folder, R_OK) == 0 ? folder : SAMPLES_FOLDER;
 }

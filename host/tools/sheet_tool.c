@@ -69,7 +69,7 @@ int main(int argc, char **argv) {
     int at = read_options(&description, argc, argv), verb = 0;
     if (at == argc)
         misuse("pack, unpack, forward, back, add or list must be said");
-    while (verb < VERBS && strcmp(argv[at], verbs[verb]))
+    while (verb < VERBS && strcmp(argv[at], verbs[verb]) != 0)
         verb++;
     if (verb == VERBS)
         misuse("'%s' is none of pack, unpack, forward, back, add and list", argv[at]);

@@ -77,7 +77,6 @@ static void write_values(FILE *out, const state *s, layout l) {
 
 /* A remark that is text stands in the column `remark`, any other in `remark_spelled`. */
 static void write_remark(FILE *out, const state *s, layout l) {
-    char spelled[REMARK_SPELLED_MOST + 1];
     bool text = is_text(s->remark, s->remark_length);
     if (l.remarks)
         fputc(',', out);
@@ -85,8 +84,11 @@ static void write_remark(FILE *out, const state *s, layout l) {
         write_text(out, s->remark, s->remark_length);
     if (l.spelled_remarks)
         fputc(',', out);
-    if (!text)
-        fwrite(spelled, 1, spell_remark(s, spelled), out);
+    if (!text) {
+        char spelled[REMARK_SPELLED_MOST + 1];
+        spell_remark(s, spelled);
+        fputs(spelled, out);
+    }
 }
 
 static void write_state(FILE *out, const state *s, layout l) {
@@ -116,16 +118,14 @@ void unpack_to(FILE *out, const uint8_t *sheet, bool si, bool spelled) {
 int unpack(const char *input, const char *output, bool si, bool spelled) {
     static uint8_t sheet[SHEET_MOST + 1];
     size_t n, length;
-    char *text;
+    char *text = NULL;
     if (load_sheet(input, sheet, &n))
         return REFUSED;
     FILE *out = open_memstream(&text, &length);
     if (!out)
         return refuse_file(output_name(output));
     unpack_to(out, sheet, si, spelled);
-    if (fclose(out))
-        return refuse_file(output_name(output));
-    int failed = write_output(output, text, length);
+    int failed = fclose(out) ? refuse_file(output_name(output)) : write_output(output, text, length);
     free(text);
     return failed;
 }

@@ -106,7 +106,7 @@ static unsigned count_of(const uint8_t *sheet) {
 static uint32_t fill_of(table *t, const uint8_t *sheet, size_t n, uint8_t first, uint8_t last) {
     if (n > 65536)
         return 1;
-    if (n < 7 || memcmp(sheet, "EAS", 3))
+    if (n < 7 || memcmp(sheet, "EAS", 3) != 0)
         return 2;
     if (sheet[3] != 0 || sheet[4] < first || sheet[4] > last)
         return 3;
@@ -143,13 +143,17 @@ static eas_record look_up(const table *t, const uint8_t *sheet, const uint8_t *s
     if (read.number)
         return (eas_record){.number = read.number};
     unsigned i = place_of(t, sheet, name, read.length, hash_of(name, read.length));
-    return i == NONE ? (eas_record){.number = 9} : record_of(t, sheet, i);
+    if (i == NONE)
+        return (eas_record){.number = 9};
+    return record_of(t, sheet, i);
 }
 
 eas_record baseline_find(const uint8_t *sheet, size_t n, const uint8_t *spelled, size_t m) {
     table t;
     uint32_t number = fill(&t, sheet, n);
-    return number ? (eas_record){.number = number} : look_up(&t, sheet, spelled, m);
+    if (number)
+        return (eas_record){.number = number};
+    return look_up(&t, sheet, spelled, m);
 }
 
 eas_part baseline_remark(const uint8_t *sheet, size_t n, const uint8_t *spelled, size_t m) {
@@ -436,7 +440,8 @@ void baseline_listing(const uint8_t *sheet, size_t n, const uint8_t *names, size
     for (size_t at = 0; at < length;) {
         const uint8_t *name = names + at, *end = memchr(name, '\n', length - at);
         size_t m = end ? (size_t)(end - name) : length - at;
-        fwrite(line, 1, write_line(name, m, answer_of(look_up(&t, sheet, name, m)), line), out);
+        size_t written = write_line(name, m, answer_of(look_up(&t, sheet, name, m)), line);
+        fwrite(line, 1, written, out);
         at += m + 1;
     }
 }
