@@ -18,6 +18,7 @@ use Rattle.air.specs.Quantities.{P0, D0, isPressure, isDensity}
 use Rattle.air.specs.Choices.{chosen}
 use Rattle.air.specs.Carried.{pressureLogs}
 use Rattle.air.proofs.Tests.{at-least}
+use Rattle.answers.specs.declared.Taken.the-variants.{Carried}
 use Rattle.answers.proofs.Verdicts.{first-beyond, second-beyond, both-carried}
 use Rattle.answers.proofs.pressure_logs.Statement.{statement}
 use Rattle.answers.proofs.pressure_logs.Tie as tie
@@ -87,8 +88,8 @@ sub-t7 c = rw (x-is (c .before), y-is c) (fits64 _ (omega (arith, differences-fi
 returns-3 : tie.Need-returns-3
 returns-3 c =
     let s = c .before .before .before .before .before .before in
-    rw (logs-are c)
-    (both-carried (isPressure (s .args .p)) (isDensity (s .args .d)) (pressureLogs chosen (s .args .p) (s .args .d)) (pressure (c .before .before .before .before)) (density (c .before .before)))
+    ap Carried (logs-are c)
+    ∙ both-carried (isPressure (s .args .p)) (isDensity (s .args .d)) (pressureLogs chosen (s .args .p) (s .args .d)) (pressure (c .before .before .before .before)) (density (c .before .before))
 
 pub pressure-logs-spec : {M : Type 1} → statement M
 pressure-logs-spec = tie.close (tie.spec within-requires returns within-requires-2 returns-2 log10-ratio-requires log10-ratio-requires-2 sub-t7 returns-3)
