@@ -1,4 +1,4 @@
-// Free answer two of document 01: the weight of a transition, 10^10 / (1 + e^q) for q in units of 10^-10.
+// Free answer two: the weight of a transition, 10^10 / (1 + e^q) for q in units of 10^-10.
 // Method: q = i/16 + r with r below 1/16; c = scale / e^(i/16) from two tables, v = scale * e^r from seven terms of the series,
 // and the weight is c / (c + v). scale is 1.8 * 10^11. Proved: within 2 units for every number of terms from 128 up.
 // A minus transition (document 02, request 3) has 10^10 / (1 - e^q), by c / (v - c): within 2 units from 1.9 on, on either side of 0.
