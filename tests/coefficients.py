@@ -182,7 +182,7 @@ def call(name, joined, sign, kept):
 
 
 def band_pieces(crate, names, parts, constants):
-    """the pieces in order, with their transitions, so many constants first; how far the fit's code keeps an exponent from 0"""
+    """the pieces in order, with their transitions, so many constants first; how far from 0 the definition keeps an exponent"""
     band = names[0][:-1]
     table = found(rf"^{band}Pieces =\n((?:    .*\n)+)", source(crate, "specs/Pieces.antt"))
     same(f"{crate}, specs: the pieces", re.findall(r"^    (?:∷ )?(.*)$", table, re.M), [*map(piece, names, *zip(*parts)), "[]"])
@@ -193,8 +193,6 @@ def band_pieces(crate, names, parts, constants):
     for most in (kept[0] for _, _, kept in parts if kept):
         bound = found(r"^limitOf Kept = some (\d+)$", source("fit", "specs/Edge.antt"))
         same("fit, specs: how far an exponent is kept", int(bound), most)
-        body = found(r"^fn kept\(.*\n.*\n((?:.*\n)*?)\}$", source("fit", "src/lib.rt"))
-        same("fit, src: how far an exponent is kept", {abs(int(n)) for n in re.findall(r"-?\d+", body)}, {most})
 
 
 def band_ends(crate, function, names, ends, constants):

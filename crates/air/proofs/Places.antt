@@ -1,6 +1,6 @@
 -- Over any rule: what lawful choices make is allowed, and what is allowed meets the claim of demand 3.
 use mathlib.Core.Bool.{Bool, true, false, cond, not}
-use mathlib.Core.Path.{_≡_, refl, sym, ap, ap₂, subst}
+use mathlib.Core.Path.{_≡_, refl, sym, ap, ap₂, subst, _∙_}
 use Prim.Native.Nat.{ℕ}
 use lib.Dec.{T}
 use lib.IntN.{ℤ}
@@ -76,10 +76,12 @@ unfolding heldAt
 own-place r l q e = ap (λ (x : Point). heldAt r Clear l (λ v. x)) e
 
 -- ---- the claim
--- a property that refuses whatever its rule refuses
+-- a property that refuses what its rule refuses, and nothing else
 pub record Judges (k : Property) (r : Rule) (s : Strip) (l : Logs) : Type 0 where
   pub by-logs : T (not (k .byLogs l)) → T (not (anyPlace s (λ v. r .beyondLogs v (l .z)) (l .y)))
   pub by-fit : (e : Edge) → T (not (k .byFit e)) → T (not (r .beyondFit (e .fit)))
+  pub logs-alone : T (not (anyPlace s (λ v. r .beyondLogs v (l .z)) (l .y))) → T (not (k .byLogs l))
+  pub fit-alone : (e : Edge) → T (not (r .beyondFit (e .fit))) → T (not (k .byFit e))
 
 -- a rule's distance over its boxes, and what is claimed of a value at that distance
 pub record Measured (d n : ℕ) (r : Rule) (Claimed : Fraction → ℤ → ℤ → Type 0) (Box : ℤ → ℤ → Type 0) : Type 0 where
@@ -142,3 +144,33 @@ module _ (d n : ℕ) (r : Rule) (Claimed : Fraction → ℤ → ℤ → Type 0) 
                 points-claim s (l .y) (l .z) q box (none-at s (λ x. r .beyondLogs x (l .z)) (l .y) (is-false e₁)) (it .points)
                 (none-at s (λ x. r .beyondFit (q x .edge .fit)) (l .y) (is-false e₂));
           }
+
+-- ---- the other way: an answer of a fit that is no refusal is accepted
+-- what acceptance asks beside the ranges
+pub record Unrefused (k : Property) (h : Held) : Type 0 where
+  pub by-logs : T (not (refusesLogs k (h .logs)))
+  pub by-fit : NoEdgeRefused k (h .edges)
+
+edges-pass : (k : Property) (r : Rule) → ((e : Edge) → T (not (r .beyondFit (e .fit))) → T (not (k .byFit e)))
+    → (s : Strip) (q : ℤ → Point) (y : ℤ) → T (not (anyPlace s (λ v. r .beyondFit (q v .edge .fit)) y)) → NoEdgeRefused k (edgesAt s q y)
+edges-pass k r f Clear q y t = one (f (q y .edge) t)
+edges-pass k r f (Between a b) q y t =
+    two (f (q a .edge) (not-left (r .beyondFit (q a .edge .fit)) (r .beyondFit (q b .edge .fit)) t))
+    (f (q b .edge) (not-right (r .beyondFit (q a .edge .fit)) (r .beyondFit (q b .edge .fit)) t))
+
+pub fit-unrefused : (k : Property) (r : Rule) (s : Strip) (l : Logs) → Judges k r s l → (r .logsNumber ≡ 0 → ⊥) → (r .fitNumber ≡ 0 → ⊥)
+    → (h : Held) → IsFit r s l h → h .number ≡ 0 → Unrefused k h
+unfolding heldAt
+fit-unrefused k r s l j logs-number fit-number h it zero =
+    go (anyPlace s (λ v. r .beyondLogs v (l .z)) (l .y)) (anyPlace s (λ v. r .beyondFit (q v .edge .fit)) (l .y)) refl refl (it .is)
+  where
+    q : ℤ → Point
+    q = it .point
+
+    go : (a b : Bool) → anyPlace s (λ v. r .beyondLogs v (l .z)) (l .y) ≡ a → anyPlace s (λ v. r .beyondFit (q v .edge .fit)) (l .y) ≡ b
+        → h ≡ cond a (judges (r .logsNumber) (r .letter) l Unfitted) (cond b (judges (r .fitNumber) (r .letter) l (edgesAt s q (l .y))) (showsAt r s l q))
+        → Unrefused k h
+    go true b e₁ e₂ is = absurd (logs-number (sym (ap (λ (i : Held). i .number) is) ∙ zero))
+    go false true e₁ e₂ is = absurd (fit-number (sym (ap (λ (i : Held). i .number) is) ∙ zero))
+    go false false e₁ e₂ is =
+        subst (Unrefused k) (sym is) (record { by-logs = j .logs-alone (is-false e₁); by-fit = edges-pass k r (j .fit-alone) s q (l .y) (is-false e₂) })

@@ -1,12 +1,13 @@
 -- Request 3 at exact places: what the choices make of pressures, and the bounds of its refusals.
-use mathlib.Core.Bool.{true, false}
+use mathlib.Core.Bool.{true, false, cond}
 use mathlib.Core.Path.{_≡_, refl}
 use mathlib.Core.List.{[]}
 use mathlib.Core.Option.{some}
 use Prim.Native.Nat.{ℕ}
 use lib.Count.{leadingZeros}
 use lib.Dec.{lit≤}
-use lib.IntN.{pos, negℤ}
+use lib.IntN.{ℤ, pos, negℤ}
+use lib.Signed.{ltZ}
 use Rattle.fraction.specs.Fraction.{Within, whole}
 use Rattle.fraction.proofs.Order.{within-more}
 use Rattle.fraction.proofs.Pins.{reaches, reaches-no-further}
@@ -24,8 +25,9 @@ use Rattle.air.specs.declared.Ends.the-variants.{Unjoined, Both}
 use Rattle.air.specs.Quantities.{D0, E0}
 use Rattle.air.specs.Held.{judges, shows, Held}
 use Rattle.air.specs.Choices.{chosen}
-use Rattle.air.specs.Places.{heldAt}
-use Rattle.air_pressure.specs.Pressure.{letterP, beyondGamma, pressureOf}
+use Rattle.bands.specs.declared.Strip.the-variants.{Clear, Between}
+use Rattle.air.specs.Places.{Point, heldAt}
+use Rattle.air_pressure.specs.Pressure.{letterP, beyondGamma, pressureOf, pressureRule}
 use Rattle.air_pressure.specs.Claim.{gammaDistance}
 use Rattle.air_pressure.specs.Property.{pressureBy, pressureProperty}
 use Rattle.air.specs.Property.{heldBy}
@@ -48,10 +50,15 @@ pub record PressureAt : Type 0 where
       (Two (edge (pos 13551294749) (negℤ (pos 1958698))) (edge (pos 13552535327) (pos 997504891))) (Both (pos 18493190) (pos 18499650)) (pos 18497841)
   -- 17 by the upper edge's band alone: the state's own would not warn
   pub warned : made 220984896228 3992662 ≡ judges 17 letterP (pair (negℤ (pos 4510000)) (pos 3450000)) Unfitted
+  -- half way through a transition, Z = 1.855
+  pub hot : made 5615165897 16265 ≡ shows letterP (pair (negℤ (pos 6900008)) (pos 1855000)) (One (edge (pos 11508813354) (pos 4675093955))) Unjoined (pos 137800)
+  -- the high band's limit, in label 230's transition, and a millionth more
+  pub at-limit : made 62282005960 1026272079264 ≡ shows letterP (pair (pos 900000) (pos 2900000)) (One (edge (pos 11941373868) (pos 9327837462))) Unjoined (pos 124089285773835)
+  pub past-limit : made 62282149369 1026272079264 ≡ judges 17 letterP (pair (pos 900000) (pos 2900001)) Unfitted
 
 pub pressure-at : PressureAt
 unfolding pressureBy pressureOf heldAt logOf lgOf mantissaOf nearOne chordOf factors factorLogs points rises leadingZeros bicubic gas1 gas2 gas3 gas4 exponent mul lowPieces middlePieces highPieces weightOf weightAbove share minusOf minusAbove minusShare exponential inverse square second third fourth fifth sixth
-pressure-at = record { standard = refl; minus = refl; kept = refl; constant = refl; joined = refl; warned = refl }
+pressure-at = record { standard = refl; minus = refl; kept = refl; constant = refl; joined = refl; warned = refl; hot = refl; at-limit = refl; past-limit = refl }
 
 -- ---- the bounds: not above 1.01, 2 or more; less than 0.05 from zero, of a minus transition alone
 pub record Bounds : Type 0 where
@@ -65,6 +72,23 @@ pub record Bounds : Type 0 where
 
 pub bounds : Bounds
 bounds = record { at-least = refl; over-least = refl; under-most = refl; at-most = refl; near = refl; not-near = refl; plus-never = refl }
+
+-- ---- 17 by gamma, which no state is known to reach: what is held, at points that are made up
+abbrev pub point : ℤ → Point
+point g = record { edge = edge g (pos 7); value = pos 0 }
+
+pub record GammaJudged : Type 0 where
+  pub own-two : heldAt (pressureRule E0 D0) Clear (pair (pos 0) (pos 0)) (λ v. point (pos 20000000000))
+      ≡ judges 17 letterP (pair (pos 0) (pos 0)) (One (edge (pos 20000000000) (pos 7)))
+  pub own-least : heldAt (pressureRule E0 D0) Clear (pair (pos 0) (pos 0)) (λ v. point (pos 10100000000))
+      ≡ judges 17 letterP (pair (pos 0) (pos 0)) (One (edge (pos 10100000000) (pos 7)))
+  pub upper-edge : heldAt (pressureRule E0 D0) (Between (negℤ (pos 505000)) (negℤ (pos 495000))) (pair (negℤ (pos 500000)) (pos 0))
+      (λ v. cond (ltZ v (negℤ (pos 500000))) (point (pos 13980000000)) (point (pos 20000000000)))
+      ≡ judges 17 letterP (pair (negℤ (pos 500000)) (pos 0)) (Two (edge (pos 13980000000) (pos 7)) (edge (pos 20000000000) (pos 7)))
+
+pub gamma-judged : GammaJudged
+unfolding heldAt lowPieces middlePieces highPieces
+gamma-judged = record { own-two = refl; own-least = refl; upper-edge = refl }
 
 -- ---- the distance: so many units from 0, and no further
 pub gamma-reaches : Within gammaDistance (pos 100000) (whole (pos 0))

@@ -1,4 +1,4 @@
--- Request 1 at exact places: what the choices make of temperatures in a strip.
+-- What the choices make of temperatures at exact places: in a strip (request 1), in a transition, on both sides of refusal 13.
 use mathlib.Core.Path.{_≡_, refl}
 use mathlib.Core.List.{[]}
 use mathlib.Core.Option.{some}
@@ -14,7 +14,7 @@ use Rattle.tgas1_temperature_low.specs.Pieces.{lowPieces}
 use Rattle.tgas1_temperature_middle.specs.Pieces.{middlePieces}
 use Rattle.tgas1_temperature_high.specs.Pieces.{highPieces}
 use Rattle.perfect.specs.Perfect.{perfectGas}
-use Rattle.air.specs.declared.Edges.the-variants.{Unfitted, Two}
+use Rattle.air.specs.declared.Edges.the-variants.{Unfitted, One, Two}
 use Rattle.air.specs.declared.Ends.the-variants.{Unjoined, Both}
 use Rattle.air.specs.Held.{judges, shows, Held}
 use Rattle.air.specs.Choices.{chosen}
@@ -42,7 +42,15 @@ pub record AtEdges : Type 0 where
   -- 13 by the upper edge alone
   pub refused : made 1335789553 4085663 ≡ judges 13 letterT (logs (negℤ (pos 1880000)) (negℤ (pos 4500000)) (pos 2620000))
       (Two (edge (pos 19244837698) (pos 10000000000)) (edge (pos 19747197991) (pos 10000000000)))
+  -- half way through a transition, Z = 2.25
+  pub hot : made 56982046482 408566274 ≡ shows letterT (logs (negℤ (pos 250000)) (negℤ (pos 2500000)) (pos 2250000))
+      (One (edge (pos 17363860526) (pos 5000934376))) Unjoined (pos 14886314992)
+  -- 13: a G of 1.96, and one unit more
+  pub most : made 2783918722048 10421279801 ≡ shows letterT (logs (pos 1438919) (negℤ (pos 1093341)) (pos 2532260))
+      (One (edge (pos 19600000000) (pos 10000000000))) Unjoined (pos 24911576045)
+  pub past-most : made 6873003460608 27091962097 ≡ judges 13 letterT (logs (pos 1831409) (negℤ (pos 678422)) (pos 2509831))
+      (One (edge (pos 19600000001) (pos 10000000000)))
 
 pub at-edges : AtEdges
 unfolding temperatureBy heldAt logOf lgOf mantissaOf nearOne chordOf factors factorLogs points rises leadingZeros bicubic gas1 gas2 gas3 gas4 exponent mul lowPieces middlePieces highPieces weightOf weightAbove share exponential inverse square second third fourth fifth sixth powerOf stepOf strideOf coarse middle fine perfectGas
-at-edges = record { wide-strip = refl; narrow-strip = refl; two-numbers = refl; perfect = refl; refused = refl }
+at-edges = record { wide-strip = refl; narrow-strip = refl; two-numbers = refl; perfect = refl; refused = refl; hot = refl; most = refl; past-most = refl }

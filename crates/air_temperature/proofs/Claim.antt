@@ -1,7 +1,8 @@
 -- Every temperature that may be held for an accepted state meets demand 3's claim.
 use mathlib.Core.Bool.{Bool, true, false, not}
-use mathlib.Core.Path.{_≡_, refl, sym, ap, subst}
+use mathlib.Core.Path.{_≡_, refl, sym, ap, subst, _∙_}
 use Prim.Native.Nat.{ℕ, _≤_}
+use native.Mathlib.Omega.{arith}
 use lib.Dec.{T}
 use lib.IntN.{ℤ, pos, negℤ}
 use lib.Signed.{ltZ, leZ-yes, ltZ-no, clashℤ}
@@ -20,13 +21,17 @@ use Rattle.air_temperature.specs.Temperature.{letterT, temperatureRule, 
 use Rattle.air.specs.Carried.{PressureLogs}
 use Rattle.air_temperature.specs.Claim.{fitDistance, KelvinClaim, TemperatureClaim}
 use Rattle.air_temperature.specs.Property.{temperatureProperty}
-use Rattle.air.specs.Property.{refusesLogs, AcceptedBy}
+use Rattle.air.specs.Property.{refusesLogs, AcceptedBy, unfitted}
 use Rattle.air.proofs.Tests.{not-right, no-true, is-false, is-true, over}
-use Rattle.air.proofs.Places.{Measured, no-place, shown-claim, fitted-shown}
+use Rattle.air.proofs.Places.{Measured, Judges, no-place, shown-claim, fitted-shown, Unrefused, fit-unrefused}
 use Rattle.air.proofs.Strips.{each-in-range}
 use Rattle.air.proofs.Ranges.{YRange, y-range}
 use Rattle.air_temperature.proofs.Fit.{FittedBox, fit-near}
 use Rattle.air_temperature.proofs.Between.{temperature-between}
+
+-- within the window 13 alone refuses
+judged : (l : Logs) → beyondWindow (l .z) ≡ false → Judges temperatureProperty temperatureRule (stripOf (l .y)) l
+judged l e = record { by-logs = λ t. no-place (stripOf (l .y)) (l .y); by-fit = λ e t. t; logs-alone = λ t. is-false e; fit-alone = λ e t. t }
 
 module _ (n : ℕ) (n-least : 128 ≤ n) (p d : ℕ) (in-density : T (isDensity d)) (l : Logs) (taken : PressureLogs p d l) where
   perfect-claim : isPerfect (l .z) ≡ true → TemperatureClaim n p d (shows letterT l Unfitted Unjoined (pos (perfectGas p d)))
@@ -57,7 +62,7 @@ module _ (n : ℕ) (n-least : 128 ≤ n) (p d : ℕ) (in-density : T (isDensity 
       let box : (v : ℤ) → YRange v → FittedBox v (l .z) =
       λ v r. record { density = r; least = over 250000 (l .z) e₂; most = ltZ-no (not-right (ltZ (l .z) (negℤ (pos 1000000))) (ltZ (pos 3000000) (l .z)) (is-false e₁)) } in
       let c = fitted-shown fitDistance n temperatureRule KelvinClaim FittedBox measured temperatureProperty s l
-      (record { by-logs = λ t. no-place s (l .y); by-fit = λ e t. t })
+      (judged l e₁)
       (each-in-range (l .y) (λ v. FittedBox v (l .z)) box (y-range d (l .y) in-density (taken .y))) p d h ok it in
       record {
         logs = l;
@@ -84,3 +89,18 @@ module _ (n : ℕ) (n-least : 128 ≤ n) (p d : ℕ) (in-density : T (isDensity 
 
 pub temperature-claim : (n : ℕ) → 128 ≤ n → (p d : ℕ) (h : Held) → AcceptedBy temperatureProperty p d h → IsTemperature p d h → TemperatureClaim n p d h
 temperature-claim n n-least p d h ok it = from-logs n n-least p d (ok .no-11) (it .logs) (it .taken) h ok (it .is)
+
+-- a temperature that is no refusal is accepted
+pub temperature-unrefused : (p d : ℕ) (h : Held) → IsTemperature p d h → h .number ≡ 0 → Unrefused temperatureProperty h
+temperature-unrefused p d h it zero = go (beyondWindow (l .z)) (isPerfect (l .z)) refl refl (it .is)
+  where
+    l : Logs
+    l = it .logs
+
+    at : Bool → Bool → Region
+    at a b = pickRegion a Refused (pickRegion b Perfect (Fitted (bandOf (l .y)) (temperatureIndex (bandOf (l .y)) (l .z))))
+
+    go : (a b : Bool) → beyondWindow (l .z) ≡ a → isPerfect (l .z) ≡ b → IsTemperatureIn (at a b) p d l h → Unrefused temperatureProperty h
+    go true b e₁ e₂ s = let twelve : _≡_ {A = ℕ} 12 0 = sym (ap (λ (i : Held). i .number) s) ∙ zero in absurd (omega (arith, twelve))
+    go false true e₁ e₂ s = subst (Unrefused temperatureProperty) (sym s) (record { by-logs = is-false e₁; by-fit = unfitted })
+    go false false e₁ e₂ s = fit-unrefused temperatureProperty temperatureRule (stripOf (l .y)) l (judged l e₁) (λ e. omega (arith, e)) (λ e. omega (arith, e)) h s zero

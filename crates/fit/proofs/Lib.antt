@@ -1,6 +1,7 @@
 pub mod BelowZero
 pub mod Weighted
 pub mod Clamp
+pub mod Kept
 pub mod Nearest
 pub mod Box
 pub mod Corners

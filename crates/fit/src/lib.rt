@@ -1,7 +1,6 @@
 // The fit engine in 64 bits: G and W of a piece, whose coefficients are lent packed.
 use packed_bicubic::bicubic_of;
 use packed_bicubic::exponent_of;
-ghost use mathlib.Core.Option.{some};
 ghost use mathlib.Core.Path.{_≡_};
 ghost use Rattle.weight.specs.Choice.{weightBy, Served};
 ghost use Rattle.packed.specs.Packed.{Block};
@@ -33,20 +32,7 @@ pub fn alone_at(a: &[u8; 10], aw: &[i32; 19], y: i64, z: i64) -> Edge
     }
 }
 
-// An exponent kept within 30 of 0.
-fn kept(q: i64) -> i64
-    ensures { λ r. ⌜ r ≡ keptIn (some 300000000000) q ⌝ }
-{
-    if 300000000000 < q {
-        return 300000000000;
-    }
-    if q < -300000000000 {
-        return -300000000000;
-    }
-    q
-}
-
-// The weight of a transition at its exponent.
+// The weight of a transition at its exponent. From 24 on a weight is 0 or 1, so that keeping an exponent changes none.
 fn weight_of(form: Form, q: i64) -> i64
     requires { ⌜ Served (signOf form) (keptIn (limitOf form) q) ⌝ }
     ensures { λ w. ⌜ w ≡ weightBy (signOf form) (keptIn (limitOf form) q) ⌝ }
@@ -54,7 +40,7 @@ fn weight_of(form: Form, q: i64) -> i64
     match form {
         Form::Plus => weigh::weight(q),
         Form::Minus => weigh::weight_minus(q),
-        Form::Kept => weigh::weight(kept(q)),
+        Form::Kept => weigh::weight(q),
     }
 }
 

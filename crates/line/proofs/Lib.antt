@@ -1,3 +1,4 @@
 pub mod Front
 pub mod Stores
 pub mod Names
+pub mod Pins

@@ -31,3 +31,14 @@ pub cut-first :
     × (frontOf remarkLayout (record19 7 (1 ∷ 98 ∷ [])) ≡ bad 6)
 unfolding frontOf
 cut-first = (refl, refl, refl, refl)
+
+-- 4 without a length byte; 5 for a length of 0 or 41, before the rest is looked at; 4 for a rest that is missing
+pub lengths :
+    (frontOf plainLayout [] ≡ bad 4)
+    × (frontOf plainLayout (0 ∷ []) ≡ bad 5)
+    × (frontOf plainLayout (41 ∷ []) ≡ bad 5)
+    × (frontOf plainLayout (40 ∷ []) ≡ bad 4)
+    × (frontOf plainLayout (1 ∷ 97 ∷ []) ≡ bad 4)
+    × (frontOf remarkLayout (41 ∷ []) ≡ bad 5)
+unfolding frontOf
+lengths = (refl, refl, refl, refl, refl, refl)

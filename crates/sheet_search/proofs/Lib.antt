@@ -3,3 +3,4 @@ pub mod Searching
 pub mod Indexed
 pub mod Pages
 pub mod Remarks
+pub mod Pins

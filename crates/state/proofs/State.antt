@@ -8,7 +8,7 @@ use Rattle.air.specs.declared.Answer.{Answer}
 use Rattle.air.specs.Held.{held}
 use Rattle.state.specs.State.{propertyOf, IsAnswer, Accepted, Accurate, answerBy}
 use Rattle.air.specs.Choices.{Choices, Lawful}
-use Rattle.air.proofs.Sound.{SoundAny, claim-any, held-any, no-refusal-any}
+use Rattle.air.proofs.Sound.{SoundAny, claim-any, held-any, no-refusal-any, accepted-any}
 use Rattle.air_entropy.proofs.Sound.{entropy-sound}
 use Rattle.air_pressure.proofs.Sound.{pressure-sound}
 use Rattle.air_temperature.proofs.Sound.{temperature-sound}
@@ -34,3 +34,8 @@ accurate n m kind first second a ok it = claim-any n m (propertyOf (kindOf kind)
 pub no-refusal : (n kind first second : ℕ) (a : Answer) → Accurate n kind first second a → held a .number ≡ 0
 unfolding Accurate
 no-refusal n kind first second a c = no-refusal-any n (propertyOf (kindOf kind)) (sound (kindOf kind)) first second (held a) c
+
+-- an allowed answer with number 0 is accepted: demand 3 leaves out refused states alone, for every kind
+pub not-refused-accepted : (kind first second : ℕ) (a : Answer) → IsAnswer kind first second a → held a .number ≡ 0 → Accepted kind first second a
+unfolding IsAnswer Accepted
+not-refused-accepted kind first second a it zero = accepted-any (propertyOf (kindOf kind)) (sound (kindOf kind)) first second (held a) it zero

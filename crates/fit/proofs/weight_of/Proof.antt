@@ -1,12 +1,14 @@
 -- `fit::weight_of` is the choice of weights for a transition, by its form.
 use mathlib.Core.Path.{sym, subst, ap, _∙_}
 use borrow.Author.Needs.{needs}
+use lib.Dec.{lit≤}
 use lib.IntN.{ℤ}
 use Rattle.integer.proofs.Machine.{back, back-ok}
-use Rattle.weight.specs.Choice.{weightOf, weightBy, Served}
+use Rattle.weight.specs.Choice.{weightBy, Served}
 use Rattle.fit.specs.declared.Form.{Form}
 use Rattle.fit.specs.Fit.{keptIn}
 use Rattle.fit.specs.Edge.{signOf, limitOf}
+use Rattle.fit.proofs.Kept.{same-kept}
 use Rattle.fit.proofs.weight_of.Statement.{statement}
 use Rattle.fit.proofs.weight_of.Tie as tie
 
@@ -31,9 +33,6 @@ weight-minus-requires c κs =
 enum-told-3 : tie.Need-enum-told-3
 enum-told-3 c = search needs
 
-kept-requires : tie.Need-kept-requires
-kept-requires c κs = search needs
-
 weight-requires-2 : tie.Need-weight-requires-2
 weight-requires-2 c κs = search needs
 
@@ -49,12 +48,11 @@ returns-2 c =
 
 returns-3 : tie.Need-returns-3
 returns-3 c =
-    let k = c .before in
-    let s = k .before .before .before in
+    let s = c .before .before .before in
     back-ok (c .weight2 .result) (c .weight2 .ok)
-    ∙ (rw (back-ok (k .kept .result) (k .kept .ok)) at (c .weight2 .ensures .0))
-    ∙ ap weightOf (rw (back (s .fits .q)) at (k .kept .ensures))
-    ∙ ap (by (s .args .q)) (sym (k .before .enum-told3 .given .1))
+    ∙ (rw (back (s .fits .q)) at (c .weight2 .ensures .0))
+    ∙ sym (same-kept 299999999999 (lit≤ tt) (s .args .q))
+    ∙ ap (by (s .args .q)) (sym (c .before .enum-told3 .given .1))
 
 pub weight-of-spec : {M : Type 1} → statement M
 weight-of-spec =
@@ -65,7 +63,6 @@ weight-of-spec =
     enum-told-2
     weight-minus-requires
     enum-told-3
-    kept-requires
     weight-requires-2
     returns
     returns-2
