@@ -41,6 +41,7 @@ pub extern "C" fn eas_check(sheet: &[u8]) -> u32
 #[no_mangle]
 pub extern "C" fn eas_find(sheet: &[u8], spelled: &[u8]) -> CRecord
     ensures { λ r. ⌜ r ≡ flatFound (locate (now (sheet .entry)) (now (spelled .entry))) ⌝ }
+    ensures { λ r. ⌜ r .start + r .length ≤ length (now (sheet .entry)) ⌝ }
 {
     flat_parts::flatten_found(calculator::locate(sheet, spelled))
 }
@@ -58,6 +59,7 @@ pub extern "C" fn eas_remark(sheet: &[u8], spelled: &[u8]) -> CPart
 #[no_mangle]
 pub extern "C" fn eas_record_at(sheet: &[u8], i: usize) -> CRecord
     ensures { λ r. ⌜ r ≡ flatFound (recordOf (now (sheet .entry)) i) ⌝ }
+    ensures { λ r. ⌜ r .start + r .length ≤ length (now (sheet .entry)) ⌝ }
 {
     flat_parts::flatten_found(sheet_walk::record_at(sheet, i))
 }
