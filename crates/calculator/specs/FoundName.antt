@@ -27,7 +27,7 @@ FoundName =
     → foundName s spelling ≡ nameIn s r
 
 -- the part that goes with an answer of the search: the name of a record whose state the answer is for, which is the name that the
--- spelling reads to; or, where the search refuses, nothing
+-- spelling reads to; or, where the search refuses by a number that is not 0, nothing
 pub data NamedAnswer (s spelling : List ℕ) (a : Answer) : List ℕ → Type 0 where
   found :
       {rs : List Record} {r : Record}
@@ -36,7 +36,7 @@ pub data NamedAnswer (s spelling : List ℕ) (a : Answer) : List ℕ → Type 0 
       → nameOf spelling ≡ text (nameIn s r)
       → IsAnswer (r .kind) (r .first) (r .second) a
       → NamedAnswer s spelling a (nameIn s r)
-  refused : (n : ℕ) → held a ≡ refuses n → NamedAnswer s spelling a []
+  refused : (n : ℕ) → (n ≡ 0 → ⊥) → held a ≡ refuses n → NamedAnswer s spelling a []
 
 -- any bytes as sheet and spelling, any answer that the search may give
 abbrev pub SearchName : Type 0
