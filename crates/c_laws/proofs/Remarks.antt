@@ -1,10 +1,11 @@
 -- Sheets with one page are alike for C; request 5 over what C gets.
 use mathlib.Core.List.{List}
-use mathlib.Core.Path.{_≡_, refl, sym, ap, _∙_}
+use mathlib.Core.Path.{_≡_, refl, sym, ap, subst, _∙_}
 use Prim.Native.Nat.{ℕ, _≤_}
 use native.Mathlib.Omega.{arith}
 use lib.ListN.{length, drop, length-drop}
 use lib.Seq.{length-take-le}
+use Rattle.octets.specs.Bytes.{part}
 use Rattle.octets.specs.Room.{fitting}
 use Rattle.air.specs.Choices.{chosen}
 use Rattle.air.specs.Held.{Held}
@@ -16,8 +17,9 @@ use Rattle.sheet_search.specs.declared.Lookup.{Lookup}
 use Rattle.sheet_search.specs.declared.Lookup.the-variants.{Hit, Miss}
 use Rattle.sheet_search.proofs.Pages.{pageOf, Reply, missed, found, replyOf, replyName, name-reply}
 use Rattle.sheet_search.proofs.Remarks.{remarks-page}
-use Rattle.sheet_remark.specs.Remark.{remarkOf}
+use Rattle.sheet_remark.specs.Remark.{remarkOf, remarkBytes}
 use Rattle.sheet_walk.proofs.Pages.{same-record, numbered-inside}
+use Rattle.convert.proofs.Aside.{forward-aside}
 use Rattle.calculator.specs.Search.{locate}
 use Rattle.calculator.proofs.Demand3.{locates}
 use Rattle.calculator.proofs.Located.{locate-inside}
@@ -26,9 +28,10 @@ use Rattle.calculator.proofs.Replies.{same-reply}
 use Rattle.report.proofs.Alike.{same-listing}
 use Rattle.walk.proofs.Pages.{same-begun, same-stepped}
 use Rattle.flat.specs.Flat.{flat}
+use Rattle.flat_parts.specs.declared.CPart.{CPart}
 use Rattle.flat_parts.specs.declared.CRecord.{CRecord}
 use Rattle.flat_parts.specs.Flat.{flatFound, flatRemark, flatMark}
-use Rattle.flat_parts.proofs.FoundPart.{found-part}
+use Rattle.flat_parts.proofs.FoundPart.{found-part, remark-bytes}
 use Rattle.c_laws.specs.Remarks.{placeless, SameRecord, SameForC, FlatRemarksAside, FoundRemark}
 
 -- a reply as C takes it, without a place
@@ -66,7 +69,15 @@ same-for-c s t e =
     }
 
 pub flat-remarks-aside : FlatRemarksAside
-flat-remarks-aside s t d = same-for-c s t (remarks-page s t d)
+flat-remarks-aside s t d = record { for-c = same-for-c s t (remarks-page s t d); refused-forward = forward-aside s t d }
 
 pub found-remark : FoundRemark
-found-remark s rs r spelling e m k = ap (λ (f : Lookup). flatRemark (remarkOf s f)) (locates s rs r spelling e m k)
+unfolding flatRemark
+found-remark s rs r spelling c e m k h =
+    let l : c ≡ flatRemark (remarkOf s (Hit r)) = h ∙ ap (λ (f : Lookup). flatRemark (remarkOf s f)) (locates s rs r spelling e m k) in
+    record {
+      no-refusal = ap (λ (p : CPart). p .number) l;
+      start-is = ap (λ (p : CPart). p .start) l;
+      length-is = ap (λ (p : CPart). p .length) l;
+      bytes = subst (λ (p : CPart). part s (p .start) (p .length) ≡ remarkBytes s (remarkOf s (Hit r))) (sym l) (remark-bytes s (remarkOf s (Hit r)));
+    }

@@ -12,12 +12,14 @@ use Rattle.sheet_record.specs.Front.{nameIn}
 use Rattle.sheet.specs.Sheet.{records, sheetOf, numberOf}
 use Rattle.sheet_search.specs.Remarks.{DifferInRemarks}
 use Rattle.sheet_search.specs.declared.Lookup.the-variants.{Hit}
-use Rattle.sheet_remark.specs.Remark.{remarkOf}
+use Rattle.sheet_remark.specs.Remark.{remarkIn, remarkOf, remarkBytes}
 use Rattle.sheet_walk.specs.Records.{recordOf}
+use Rattle.convert.specs.Convert.{forward}
 use Rattle.calculator.specs.Search.{locate, searchBy}
 use Rattle.walk.specs.declared.Walk.{Walk}
 use Rattle.walk.specs.Walk.{begunBy, stepped}
 use Rattle.flat.specs.Flat.{flat}
+use Rattle.flat_parts.specs.declared.CPart.{CPart}
 use Rattle.flat_parts.specs.declared.CRecord.{CRecord}
 use Rattle.flat_parts.specs.Flat.{flatFound, flatRemark, flatMark}
 use Rattle.c_laws.specs.Texts.{lineIn, listingIn}
@@ -44,14 +46,27 @@ pub record SameForC (s t : List ℕ) : Type 0 where
   pub begin : begunBy (sheetOf s) ≡ begunBy (sheetOf t)
   pub next : (w : Walk) (room : ℕ) → stepped chosen s w room ≡ stepped chosen t w room
 
-abbrev pub FlatRemarksAside : Type 0
-FlatRemarksAside = (s t : List ℕ) → DifferInRemarks s t → SameForC s t
+-- and `eas_forward`, which refuses both: they are of version 2
+pub record SameBehindRemarks (s t : List ℕ) : Type 0 where
+  pub for-c : SameForC s t
+  pub refused-forward : (room : ℕ) → forward s room ≡ forward t room
 
--- any accepted sheet, any record of it, any spelling that reads to its name: `eas_remark` gives that record's remark
+abbrev pub FlatRemarksAside : Type 0
+FlatRemarksAside = (s t : List ℕ) → DifferInRemarks s t → SameBehindRemarks s t
+
+-- a part of a sheet that C is told of, with the remark of a record: its place, and its bytes there
+pub record HoldsRemark (s : List ℕ) (r : Record) (c : CPart) : Type 0 where
+  pub no-refusal : c .number ≡ 0
+  pub start-is : c .start ≡ remarkIn s r .start
+  pub length-is : c .length ≡ remarkIn s r .len
+  pub bytes : part s (c .start) (c .length) ≡ remarkBytes s (remarkOf s (Hit r))
+
+-- any accepted sheet, any record of it, any spelling that reads to its name: what `eas_remark` gives has that record's remark
 abbrev pub FoundRemark : Type 0
 FoundRemark =
-    (s : List ℕ) (rs : List Record) (r : Record) (spelling : List ℕ)
+    (s : List ℕ) (rs : List Record) (r : Record) (spelling : List ℕ) (c : CPart)
     → sheetOf s ≡ records rs
     → List·Memᴰ r rs
     → nameOf spelling ≡ text (nameIn s r)
-    → flatRemark (remarkOf s (locate s spelling)) ≡ flatRemark (remarkOf s (Hit r))
+    → c ≡ flatRemark (remarkOf s (locate s spelling))
+    → HoldsRemark s r c
