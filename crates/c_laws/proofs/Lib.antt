@@ -5,3 +5,4 @@ pub mod Allowed
 pub mod Demand3
 pub mod Rooms
 pub mod Growing
+pub mod Covers

@@ -1,12 +1,13 @@
 -- Request 7 over what C gets: the sheet that an add leaves in lent room, and a walk that is begun before it.
 use mathlib.Core.Bool.{cond}
-use mathlib.Core.List.{List, [], _∷_, List·Memᴰ}
+use mathlib.Core.List.{List, [], _∷_, _++_, List·Memᴰ}
 use mathlib.Core.Path.{_≡_}
-use Prim.Native.Nat.{ℕ, _^_, _<_}
+use Prim.Native.Nat.{ℕ, suc, _^_, _≤_, _<_}
 use lib.Dec.{eqb}
-use lib.ListN.{length, take}
+use lib.ListN.{length, take, drop}
 use Rattle.octets.specs.Bytes.{part}
 use Rattle.octets.specs.Room.{Text, text, written, outcomeOf}
+use Rattle.name.specs.Spelling.{spelled}
 use Rattle.name.specs.Name.{nameOf}
 use Rattle.air.specs.Choices.{Choices, chosen}
 use Rattle.state.specs.State.{answerBy}
@@ -17,8 +18,9 @@ use Rattle.sheet_remark.specs.Remark.{remarkOf, remarkBytes}
 use Rattle.append.specs.Add.{added}
 use Rattle.append.specs.Laws.{Appended}
 use Rattle.calculator.specs.Search.{locate, searchBy}
-use Rattle.line.specs.Line.{line}
+use Rattle.line.specs.Line.{lineRoom, lineOf, line}
 use Rattle.walk.specs.Walk.{begunBy, lineOfRecord, stepped, stepOf}
+use Rattle.walk.specs.Laws.{linesOf}
 use Rattle.walk.specs.declared.Walk.{Walk}
 use Rattle.walk.specs.declared.Step.{Step}
 use Rattle.flat_parts.specs.declared.CText.{CText}
@@ -93,6 +95,52 @@ onlyNext (add spelling kind first second room ∷ calls) = onlyNext calls
 -- a walk that `eas_begin` began on an accepted sheet gives the host, whatever it adds meanwhile, what it would have given with no adds
 abbrev pub FlatUndisturbed : Type 0
 FlatUndisturbed = (s : List ℕ) (calls : List Call) → Accepted s → gets s (begunBy (sheetOf s) .walk) calls ≡ gets s (begunBy (sheetOf s) .walk) (onlyNext calls)
+
+-- a call of `eas_next` in each room, and rooms that are long enough for any line
+abbrev pub nextIn : List (List ℕ) → List Call
+nextIn [] = []
+nextIn (room ∷ rooms) = next room ∷ nextIn rooms
+
+abbrev pub Roomy : List (List ℕ) → Type 0
+Roomy rooms = (room : List ℕ) → List·Memᴰ room rooms → lineRoom ≤ length room
+
+-- what calls in these rooms give: a text each, in order. No call refuses; it tells how long its text is, which stands in front of the
+-- room. An empty text leaves the room as it was
+pub data Given : List (List ℕ) → List Text → List Got → Type 0 where
+  none : Given [] [] []
+  more :
+      {room t : List ℕ} {g : Got} {rooms : List (List ℕ)} {ts : List Text} {gs : List Got}
+      → g .told .number ≡ 0
+      → g .told .length ≡ length t
+      → g .room ≡ t ++ drop (length t) room
+      → Given rooms ts gs
+      → Given (room ∷ rooms) (text t ∷ ts) (g ∷ gs)
+
+-- a walk over an accepted sheet gives the lines of all its records, in order, and then nothing
+abbrev pub FlatWalkCovers : Type 0
+FlatWalkCovers =
+    (s : List ℕ) (rs : List Record) (rooms : List (List ℕ))
+    → sheetOf s ≡ records rs
+    → length rooms ≡ suc (length rs)
+    → Roomy rooms
+    → Given rooms (linesOf chosen s rs ++ (text [] ∷ [])) (gets s (begunBy (sheetOf s) .walk) (nextIn rooms))
+
+-- a walk over the sheet that an add leaves gives the lines of the old records, then that of the new state, and then nothing
+abbrev pub FlatLaterCovers : Type 0
+FlatLaterCovers =
+    (s spelling name room last : List ℕ) (rs : List Record) (kind first second : ℕ) (c : CText) (rooms : List (List ℕ))
+    → sheetOf s ≡ records rs
+    → nameOf spelling ≡ text name
+    → first < 2 ^ 64
+    → second < 2 ^ 64
+    → c ≡ flatText (outcomeOf (added s spelling kind first second (length room)))
+    → last ≡ written (added s spelling kind first second (length room)) room
+    → c .number ≡ 0
+    → length rooms ≡ suc (suc (length rs))
+    → Roomy rooms
+    → let t = take (c .length) last in
+    Given rooms (linesOf chosen s rs ++ (text (lineOf (spelled name) (answerBy chosen kind first second)) ∷ (text [] ∷ [])))
+    (gets t (begunBy (sheetOf t) .walk) (nextIn rooms))
 
 -- the line of a record that a walk gives is the one that `eas_line` gives for any spelling of its name
 abbrev pub WalkLine : Type 0

@@ -15,6 +15,7 @@ use mir.Syntax.{w64}
 use mir.Val.{SFits, toZ, ofZ}
 use Rattle.integer.specs.Z.{zs, ≡-by}
 use Rattle.decimal.specs.Decimal.{natural, whole}
+use Rattle.decimal.proofs.Digits.{at-most}
 
 flip : (n : ℕ) → negsuc 0 -ℤ negsuc n ≡ pos n
 flip n = ≡-by (search zs) (omega arith)
@@ -49,6 +50,12 @@ pub above : (z : ℤ) → SFits w64 z → ltZ z (pos 0) ≡ false → Above z
 unfolding whole
 above (pos n) f t = record { positive = tt; small = f .sfits; is = refl }
 above (negsuc n) f t = absurd (subst T t tt)
+
+-- a number whose size is below 10^k has at most a sign and k digits
+pub whole-at-most : (k : ℕ) (z : ℤ) → natAbs z < 10 ^ suc k → length (whole z) ≤ suc (suc k)
+unfolding whole
+whole-at-most k (pos n) h = omega (arith, at-most k n h)
+whole-at-most k (negsuc n) h = omega (arith, at-most k (suc n) h)
 
 -- what the stores put: the sign at a place, and the digits behind it
 module _ (z : ℤ) (line last : List ℕ) (at n r : ℕ) (e : n ≡ natAbs z) where

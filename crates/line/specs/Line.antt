@@ -42,12 +42,16 @@ lineOf name h = name ++ restBy (h .number) (h .letter) (h .logs) (h .value)
 unfoldable pub line : List ℕ → Held → List ℕ
 line spelling h = lineOf (shownName (nameOf spelling)) h
 
+-- every line fits in so many bytes: EAS_LINE_ROOM of the header
+abbrev pub lineRoom : ℕ
+lineRoom = 192
+
 -- a shown name and a line stand at the start of an array of zeros
 abbrev pub shownHeld : List ℕ → Shown
 shownHeld t = record { bytes = written (text t) (replicate 120 0); len = length t }
 
 abbrev pub lineHeld : List ℕ → Line
-lineHeld t = record { bytes = written (text t) (replicate 192 0); len = length t }
+lineHeld t = record { bytes = written (text t) (replicate lineRoom 0); len = length t }
 
 -- how many bytes became of a text
 abbrev pub lengthOf : Outcome → ℕ

@@ -6,19 +6,19 @@ use lib.ListN.{length, take, drop}
 use Rattle.air.specs.Choices.{chosen}
 use Rattle.calculator.specs.Search.{searchBy}
 use Rattle.line.specs.declared.Line.{Line}
-use Rattle.line.specs.Line.{line, lineHeld}
+use Rattle.line.specs.Line.{line, lineRoom, lineHeld}
 use Rattle.octets.specs.Room.{text, written}
 use Rattle.octets.specs.declared.Outcome.{Outcome}
 use Rattle.octets.specs.declared.Outcome.the-variants.{Done}
 use Rattle.name_list.specs.Lines.{linesOf}
 use Rattle.report.specs.Listing.{linesBy}
 
--- the line of the name that starts at a place, in its 192 bytes; the other names start at `next`
+-- the line of the name that starts at a place; the other names start at `next`
 pub record NextLine (sheet list : List ℕ) (start next : ℕ) (built : Line) : Type 0 where
   pub name : List ℕ
   pub names : linesOf (drop start list) ≡ name ∷ linesOf (drop next list)
   pub text : built ≡ lineHeld (line name (searchBy chosen sheet name))
-  pub short : built .len ≤ 192
+  pub short : built .len ≤ lineRoom
   pub after : start < next
   pub inside : next ≤ length list + 1
 
