@@ -9,6 +9,7 @@ of specs/ that nothing promised names."""
 import difflib
 import re
 import sys
+from functools import cache
 from pathlib import Path
 
 ROOT = Path(__file__).resolve().parent.parent
@@ -26,22 +27,26 @@ tests/coefficients.py compares with the printed listing. A change here is a chan
 """
 
 
+@cache
 def promises():
     """each line's file and statement"""
     lines = (ROOT / "tests" / "promises.txt").read_text().splitlines()
     return [tuple(line.split(" ", 1)) for line in lines if line and line[0] != "#"]
 
 
+@cache
 def crates():
     """all crates, in the order of crates.txt"""
     lines = (ROOT / "crates.txt").read_text().splitlines()
     return [line.split(":", 1)[0] for line in lines if ":" in line and not line.startswith("#")]
 
 
+@cache
 def paths(pattern):
     return [str(path.relative_to(CRATES)) for path in sorted(CRATES.glob(pattern))]
 
 
+@cache
 def declared(path):
     """whether the root file of the folder names the file"""
     file = CRATES / path
@@ -64,7 +69,7 @@ def starts(project):
             found.append((path, made))
         else:
             faults.append(f"{path}: no theorem with the statement {promise}")
-    for path in paths("*/src/*.rt"):
+    for path in paths("*/src/**/*.rt"):
         found += [(path, made) for made in project.file(path).definitions if made.kind == "entry"]
     return found, faults
 
@@ -98,13 +103,13 @@ def listed_weakenings():
 
 
 def premises(project):
-    """for each promised statement that is one name: its definition with ⊥ as a premise more, a record without its last field"""
+    """for each promised statement that is one name: its definition with ⊥ as a premise more, a record without its last line"""
     for path, promise in promises():
         theorem = theorems(project, path)[promise]
         for home, made in walk.named(project, path, theorem, whole=False)[0]:
             if promise != f"{theorem.name} : {made.name}":
                 continue
-            yield home, *((made.signature[-1], "") if made.kind == "record" else (f"\n{made.name} =", f"\n{made.name} = ⊥ →"))
+            yield home, *((made.signature[-1], "") if made.kind != "term" else (f"\n{made.name} =", f"\n{made.name} = ⊥ →"))
 
 
 def unnoticed(project, stored):
@@ -150,7 +155,7 @@ def main(*words):
     faults, tried = unnoticed(project, printed)
     if faults:
         sys.exit("\n".join(faults))
-    print(f"{len(promises())} theorems stand, as what they were; {tried} weakenings are noticed")
+    print(f"{len(promises())} theorems stand, made of what is stored; {tried} weakenings are noticed")
 
 
 main(*sys.argv[1:])

@@ -7,9 +7,12 @@ from dataclasses import dataclass, field
 MARKS = r"(?:(?:unfoldable|abbrev|pub) )*"
 SIGNATURE = re.compile(rf"\s*({MARKS})([^\s(){{}}]+)(?: \{{[^}}]*\}})? :(?:\s|$)")
 TYPE = re.compile(rf"\s*({MARKS})(data|record) (\S+)")
-COMMENT = re.compile(r"(?:^|(?<=\s))--(?:\s.*)?$")
+COMMENT = re.compile(r"(?:^|(?<= ))--(?: .*)?$")
 TOKEN = re.compile(r"\[\]|[^\s(){}\[\],;⌜⌝]+")
-STRANGE = re.compile(r"\{-|\"|«|\bderiving\b|\bpackage\.|^(?!use ).*Rattle·|^\s*(mutual|infix[lr]?|open|axiom|(unfoldable )?pub use)\b")
+STRANGE = re.compile(
+    r"[^\S ]|\{-|\"|«|\bderiving\b|\bpackage\.|^(?!use ).*Rattle·"
+    r"|^\s*(mutual|infix[lr]?|open|axiom|(unfoldable )?pub use)\b"
+)
 
 
 @dataclass(eq=False)
@@ -36,10 +39,12 @@ class Definition:
 
 @dataclass
 class File:
-    """the names and the modules that it brings in, each as it is called here; its definitions; the sets of rules for tactics"""
+    """the names and the modules that it brings in, each as it is called here; the modules below it; its definitions; the sets of rules
+    for tactics"""
 
     names: dict = field(default_factory=dict)
     modules: dict = field(default_factory=dict)
+    children: list = field(default_factory=list)
     definitions: list = field(default_factory=list)
     rules: list = field(default_factory=list)
 
@@ -63,7 +68,7 @@ def unknown(place, text):
 
 def bare(text, place):
     """the lines without comments"""
-    lines = [cut for line in text.splitlines() if (cut := COMMENT.sub("", line).rstrip())]
+    lines = [cut for line in text.split("\n") if (cut := COMMENT.sub("", line).rstrip())]
     if strange := [line for line in lines if STRANGE.search(line)]:
         raise unknown(place, strange[0])
     return lines
@@ -123,7 +128,9 @@ def read(file, lines, headings, place):
         elif made := SIGNATURE.match(line):
             last = Definition(made[2], made[1], "term", headings, chunk)
             file.definitions.append(last)
-        elif not re.match(r"(pub )?mod |unfolding ", line):
+        elif made := re.fullmatch(r"(?:pub )?mod (\S+)", line):
+            file.children.append(made[1])
+        elif not line.startswith("unfolding "):
             if not last or not {last.name, *last.name.split("_")} & set(TOKEN.findall(line.split(" =")[0])):
                 raise unknown(place, line)
             last.equations.append(chunk)
