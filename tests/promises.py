@@ -1,7 +1,7 @@
 """What is promised stands, and is what it was. Each line of tests/promises.txt is a file of crates/ and the statement of a theorem
 in it, on one line, behind its module's heading and ⊢ where it stands in one: a theorem that is gone, is stated otherwise or stands
 in a file that no root declares fails, and so does a public theorem of a file Computed or Pins that is not listed. (That it holds is
-the prover's matter.) tests/statements.txt holds the contract of every C entry and every definition that statements and contracts are
+the prover's matter.) tests/statements.txt holds the contract of every C entry and of the listing program and every definition that statements and contracts are
 made of: a change of any fails until `python3 tests/promises.py --write` stores it, so that a landing shows it. Each weakening of
 tests/weakenings.txt, and a premise more in each statement that is one name, must be such a change. --unreached tells the definitions
 of specs/ that nothing promised names."""
@@ -19,8 +19,8 @@ sys.path.insert(0, str(ROOT / "tests" / "statements"))
 import walk
 
 SHOWN = 60  # lines of a difference
-HEAD = """What the statements of tests/promises.txt and the C entries are made of, as `python3 tests/promises.py --write` prints it
-from crates/. First the contract of every entry; then, file by file, every definition that they name, or that such a definition
+HEAD = """What the statements of tests/promises.txt and the entries are made of, as `python3 tests/promises.py --write` prints it from
+crates/. First the contract of every entry, those of C and the listing program's; then, file by file, every definition that they name, or that such a definition
 names, as it stands there, down to the names of the kit. The `use` lines say whose name each is, of a file with promised theorems
 also in their statements. Comments and `unfolding` lines are left out, and the numbers of the lists of coefficients, which
 tests/coefficients.py compares with the printed listing. A change here is a change of what is promised: read it as one.

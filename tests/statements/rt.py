@@ -1,5 +1,5 @@
-"""A file of src/ as its `use` lines, its structs, enums, types and constants, and its C entries: each from its attributes up to its
-body, with what it requires and ensures."""
+"""A file of src/ as its `use` lines, its structs, enums, types and constants, and its entries, those of C and the listing program's
+`run`: each from its attributes up to its body, with what it requires and ensures."""
 
 import re
 
@@ -22,7 +22,7 @@ def item(lines):
     if made := re.match(r"(?:pub )?(struct|enum|type|const) (\w+)", lines[top]):
         end = next(i for i in range(top, len(lines)) if re.search(r"[;}]$", lines[i]) and lines[i][0] != " ")
         return antt.Definition(made[2], "", made[1], (), lines[: end + 1])
-    if "#[no_mangle]" in lines[:top]:
+    if "#[no_mangle]" in lines[:top] or lines[top].startswith("fn run("):
         end = next(i for i in range(top, len(lines)) if lines[i].endswith("{") and lines[i][0] != " ")
         head = [*lines[:end], *filter(None, [lines[end][:-1].rstrip()])]
         return antt.Definition(re.search(r"\bfn (\w+)", antt.joined(head))[1], "", "entry", (), head)
@@ -40,6 +40,6 @@ def parse(text, place):
     held = [line for made in file.definitions for line in made.signature if made.kind != "const"]
     if strange := [line for line in held if "::" in line or "//" in line] + [line for line in lines if "/*" in line]:
         raise antt.unknown(place, strange[0])
-    if sum("no_mangle" in line for line in lines) != sum(made.kind == "entry" for made in file.definitions):
+    if sum("no_mangle" in line for line in lines) != sum(made.signature[0].startswith("#") for made in file.definitions if made.kind == "entry"):
         raise antt.unknown(place, "an entry")
     return file

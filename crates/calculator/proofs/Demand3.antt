@@ -15,12 +15,23 @@ use Rattle.sheet_search.proofs.Locate.{finds}
 use Rattle.air.specs.declared.Answer.{Answer}
 use Rattle.air.specs.Held.{held}
 use Rattle.air.specs.Choices.{Choices, Lawful, chosen}
-use Rattle.state.specs.State.{IsAnswer}
-use Rattle.state.proofs.State.{accurate, no-refusal}
-use Rattle.state.proofs.State.{allowed}
+use Rattle.state.specs.State.{IsAnswer, Accepted}
+use Rattle.state.proofs.State.{allowed, accurate, no-refusal, not-refused-accepted}
 use Rattle.air.proofs.Lawful.{lawful}
 use Rattle.calculator.specs.Search.{locate, locateIn, locateName, AnswerAt, IsSearch, answerAt, searchBy}
 use Rattle.calculator.specs.Demand3.{Answered, Demand3, SearchDemand3}
+
+-- all that demand 3 says holds of an allowed answer that is accepted, and of one that is no refusal
+pub answered : (kind first second : ℕ) (a : Answer) → IsAnswer kind first second a → Accepted kind first second a → Answered kind first second a
+answered kind first second a it ok =
+    record {
+      answer = it;
+      no-refusal = no-refusal 128 kind first second a (accurate 128 (lit≤ tt) kind first second a ok it);
+      accurate = λ n h. accurate n h kind first second a ok it;
+    }
+
+pub unless-refused : (kind first second : ℕ) (a : Answer) → IsAnswer kind first second a → held a .number ≡ 0 → Answered kind first second a
+unless-refused kind first second a it zero = answered kind first second a it (not-refused-accepted kind first second a it zero)
 
 -- any valid spelling of a record's name finds that record
 pub locates : (s : List ℕ) (rs : List Record) (r : Record) (spelling : List ℕ)
@@ -31,12 +42,7 @@ locates s rs r spelling e m k = ap (locateIn s spelling) e ∙ ap (locateName s 
 pub demand3 : Demand3
 unfolding IsSearch
 demand3 s rs r spelling a e m k searched ok =
-    let it : IsAnswer (r .kind) (r .first) (r .second) a = subst (λ (f : Lookup). AnswerAt f a) (locates s rs r spelling e m k) searched in
-    record {
-      answer = it;
-      no-refusal = no-refusal 128 (r .kind) (r .first) (r .second) a (accurate 128 (lit≤ tt) (r .kind) (r .first) (r .second) a ok it);
-      accurate = λ n h. accurate n h (r .kind) (r .first) (r .second) a ok it;
-    }
+    answered (r .kind) (r .first) (r .second) a (subst (λ (f : Lookup). AnswerAt f a) (locates s rs r spelling e m k) searched) ok
 
 allowed-at : (c : Choices) → Lawful c → (f : Lookup) (a : Answer) → held a ≡ answerAt c f → AnswerAt f a
 allowed-at c law (Miss n) a e = e

@@ -18,9 +18,11 @@ use Rattle.sheet.proofs.Counted.{accepted-records}
 use Rattle.sheet_search.specs.Find.{findIn, handedBack}
 use Rattle.sheet_search.proofs.Searching.{Finding, hit, miss, finding}
 use Rattle.air.specs.declared.Answer.{Answer}
+use Rattle.air.specs.Held.{Held}
 use Rattle.calculator.specs.Search.{locate, locateIn, locateName, AnswerAt, IsSearch}
 use Rattle.calculator.specs.FoundName.{FoundName, NamedAnswer, found, refused, SearchName}
-use Rattle.calculator.proofs.Demand3.{locates}
+use Rattle.calculator.specs.Demand3.{FoundAnswered, UnlessRefused}
+use Rattle.calculator.proofs.Demand3.{locates, unless-refused}
 
 pub found-name : FoundName
 found-name s rs r spelling e m k = ap (handedBack s) (locates s rs r spelling e m k)
@@ -63,3 +65,11 @@ module _ (s spelling : List ℕ) (a : Answer) where
 pub search-name : SearchName
 unfolding IsSearch locate
 search-name s spelling a h = searched s spelling a (sheetOf s) refl h
+
+-- what a search answers with number 0 is as demand 3 says
+pub search-answered : UnlessRefused
+search-answered s spelling a h zero = go (search-name s spelling a h)
+  where
+    go : {part : List ℕ} → NamedAnswer s spelling a part → FoundAnswered s spelling a
+    go (found {rs} {r} e m k it) = record { rs = rs; r = r; reads = e; member = m; named = k; answered = unless-refused (r .kind) (r .first) (r .second) a it zero }
+    go (refused n never is) = absurd (never (sym (ap (λ (i : Held). i .number) is) ∙ zero))
