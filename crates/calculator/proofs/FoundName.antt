@@ -51,15 +51,15 @@ module _ (s spelling : List ℕ) (a : Answer) where
   Named f = NamedAnswer s spelling a (handedBack s f)
 
   named : (rs : List Record) → sheetOf s ≡ records rs → (t : Text) → nameOf spelling ≡ t → AnswerAt (locateName s rs t) a → Named (locateName s rs t)
-  named rs e (Room.refused k) p h = refused k (name-never spelling p) h
+  named rs e (Room.refused k) p h = refused _ h (name-never spelling p)
   named rs e (text name) p h = go (findIn s rs name) (finding s rs name) h
     where
       go : (f : Lookup) → Finding s rs name f → AnswerAt f a → Named f
       go (Hit r) (hit m q) l = found e m (p ∙ ap text (sym q)) l
-      go (Miss n) miss l = refused 9 (λ z. omega arith) l
+      go (Miss n) miss l = refused _ l (λ z. omega arith)
 
   searched : (x : Sheet) → sheetOf s ≡ x → AnswerAt (locateIn s spelling x) a → Named (locateIn s spelling x)
-  searched (Sheet.refused n) e h = refused n (λ z. sheet-never s (e ∙ ap Sheet.refused z)) h
+  searched (Sheet.refused n) e h = refused _ h (λ z. sheet-never s (e ∙ ap Sheet.refused z))
   searched (records rs) e h = named rs e (nameOf spelling) refl h
 
 pub search-name : SearchName

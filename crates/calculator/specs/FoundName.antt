@@ -36,7 +36,7 @@ pub data NamedAnswer (s spelling : List ℕ) (a : Answer) : List ℕ → Type 0 
       → nameOf spelling ≡ text (nameIn s r)
       → IsAnswer (r .kind) (r .first) (r .second) a
       → NamedAnswer s spelling a (nameIn s r)
-  refused : (n : ℕ) → (n ≡ 0 → ⊥) → held a ≡ refuses n → NamedAnswer s spelling a []
+  refused : (n : ℕ) → held a ≡ refuses n → (n ≡ 0 → ⊥) → NamedAnswer s spelling a []
 
 -- any bytes as sheet and spelling, any answer that the search may give
 abbrev pub SearchName : Type 0
