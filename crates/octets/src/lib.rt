@@ -1,6 +1,6 @@
 // Bytes: definitions and laws that names, sheets and lines share.
 ghost use mathlib.Core.Path.{_≡_};
-ghost use Prim.Native.Nat.{_+_, _≤_};
+ghost use Prim.Native.Nat.{_+_, _<_, _≤_};
 ghost use lib.ListN.{length};
 ghost use Rattle.octets.specs.Room.{fitting, written, putAt, outcomeOf};
 
@@ -11,7 +11,9 @@ pub enum Outcome {
 }
 
 // A byte as a wider number: asks only for the index where it is read.
-pub fn wide(x: u8) -> u64 {
+pub fn wide(x: u8) -> u64
+    ensures { λ r. ⌜ (r ≡ x) × (r < 256) ⌝ }
+{
     x as u64
 }
 

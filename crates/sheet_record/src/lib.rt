@@ -23,12 +23,6 @@ pub fn long(x: u8) -> usize
     x as usize
 }
 
-fn wide(x: u8) -> u64
-    ensures { λ r. ⌜ (r ≡ x) × (r < 256) ⌝ }
-{
-    x as u64
-}
-
 // The number in the k bytes from a place on, high byte first.
 pub fn number(s: &[u8], at: usize, k: usize) -> u64
     requires { ⌜ (k ≤ 8) × (at + k ≤ length (now s)) ⌝ }
@@ -37,7 +31,7 @@ pub fn number(s: &[u8], at: usize, k: usize) -> u64
     let mut n: u64 = 0;
     let mut i = 0;
     while i < k {
-        n = n * 256 + wide(s[at + i]);
+        n = n * 256 + octets::wide(s[at + i]);
         i += 1;
     }
     n
