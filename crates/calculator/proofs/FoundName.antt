@@ -72,4 +72,4 @@ search-answered s spelling a h zero = go (search-name s spelling a h)
   where
     go : {part : List ℕ} → NamedAnswer s spelling a part → FoundAnswered s spelling a
     go (found {rs} {r} e m k it) = record { rs = rs; r = r; reads = e; member = m; named = k; answered = unless-refused (r .kind) (r .first) (r .second) a it zero }
-    go (refused n never is) = absurd (never (sym (ap (λ (i : Held). i .number) is) ∙ zero))
+    go (refused n is never) = absurd (never (sym (ap (λ (i : Held). i .number) is) ∙ zero))
