@@ -5,13 +5,13 @@
 
 #include "differential.h"
 #include "growth.h"
+#include "length.h"
 #include "tally.h"
 
 enum { ADDITIONS_PART = 25, LONG_BYTES = 70000 };
 
 #define TEN "0123456789"
 #define FORTY TEN TEN TEN TEN
-#define LENGTH(array) (sizeof(array) / sizeof *(array))
 
 /* Sheets with their number for an addition and for a walk: where several apply the first one stands. An accepted one
  * has the records `a` and `b`, or `a` alone. */

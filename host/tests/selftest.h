@@ -2,9 +2,8 @@
 #ifndef HOST_SELFTEST_H
 #define HOST_SELFTEST_H
 
+#include "length.h"
 #include "reference/made.h"
-
-#define LENGTH(array) (sizeof(array) / sizeof((array)[0]))
 
 /* Bytes with their number, and a record's two values, 7 and 258. */
 #define BYTES(text) (const uint8_t *)(text), sizeof(text) - 1

@@ -3,10 +3,9 @@
 #include <math.h>
 #include <stdlib.h>
 
+#include "length.h"
 #include "reference/answer.h"
 #include "tally.h"
-
-#define LENGTH(array) (sizeof(array) / sizeof((array)[0]))
 
 /* Density edges, strip edges, extremes, standards. */
 static const int64_t y_edges[] = {-7000000, -6000000, -5000000, -4525000, -4500000, -4475000, -2000000, -1000000,

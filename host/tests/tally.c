@@ -14,12 +14,38 @@ static const char *program;
 static const char *part = "start";
 static uint64_t seed, case_index, checks, failures;
 
-static void on_fault(int signal_number) {
-    char text[256];
-    int n = snprintf(text, sizeof text, "%s: signal %d, seed %" PRIu64 ", %s case %" PRIu64 "\n", program,
-                     signal_number, seed, part, case_index);
-    if (write(STDERR_FILENO, text, (size_t)n) < 0)
+/* Below a signal handler nothing may be called but write and the like: texts go out as they are, numbers digit by
+ * digit. */
+static void tell(const char *text, size_t n) {
+    if (write(STDERR_FILENO, text, n) < 0)
         _exit(3);
+}
+
+static void tell_text(const char *text) {
+    tell(text, strlen(text));
+}
+
+static void tell_number(uint64_t number) {
+    char digits[20];
+    size_t at = sizeof digits;
+    do {
+        digits[--at] = (char)('0' + number % 10);
+        number /= 10;
+    } while (number > 0);
+    tell(digits + at, sizeof digits - at);
+}
+
+static void on_fault(int signal_number) {
+    tell_text(program);
+    tell_text(": signal ");
+    tell_number((uint64_t)signal_number);
+    tell_text(", seed ");
+    tell_number(seed);
+    tell_text(", ");
+    tell_text(part);
+    tell_text(" case ");
+    tell_number(case_index);
+    tell_text("\n");
     _exit(2);
 }
 
