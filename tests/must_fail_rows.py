@@ -12,8 +12,10 @@ PAGE, CHECKLIST = ROOT / "docs" / "MUST-FAIL.md", ROOT / "docs" / "CHECKLIST.md"
 LARGE, MOST = 12, 4  # each edit costs its whole crate: one of more functions than the first has at most the second of edits
 TITLE = "## Every edit\n"
 HEAD = """
-The first error that the prover prints for an edit is the fact in its row: a statement that is false for the wrong program, not a
-proof that no longer fits it. This was read from the prover's output, edit by edit; the gate sees only that each is refused.
+The first error that the prover printed for an edit was read when the edit was made; the gate sees only that each is refused. Mostly
+that error is the fact in the row: a statement that is false for the wrong program. Where a function's proof no longer fits its
+changed body, it is that instead, as the log of the edit shows: weigh/quotient_to_thousands is refused because `portion_of` has no
+proof of the changed body.
 `python3 tests/must_fail_rows.py --write` prints this section from the comments of the edits.
 """
 
