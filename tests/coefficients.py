@@ -1,12 +1,12 @@
 """Compares every number of the listing crates' tables, in specs/ and packed in src/, with tests/listing/*.txt: the numerals as
-source document 000 prints them, by label and name. A number that differs, is missing or stands elsewhere fails, and so does an
-end, a limit or a transition that is not the listing's, and a packed block that is not lent once, is not as small as it can be or
-is not as tests/listing prints it, and a band's crate that is not as tests/listing/band_crates.py prints it."""
+source document 000 prints them, by label and name. A number that differs, is missing or stands elsewhere fails, and so does a
+numeral with more digits than its listing is said to have, an end, a limit or a transition that is not the listing's, a packed
+block that is not lent once, is not as small as it can be or is not as tests/listing prints it, and a band's crate that is not as
+tests/listing/band_crates.py prints it."""
 
 import re
 import subprocess
 import sys
-from decimal import ROUND_HALF_UP, Decimal
 from pathlib import Path
 
 ROOT = Path(__file__).resolve().parent.parent
@@ -28,6 +28,15 @@ TABLES = {
     "pressure high": ("tgas1_gamma_high", "Pieces.antt"),
 }
 
+# how many parts of a unit of 10^-10 a listing's numerals are whole numbers of, in the words of its rule (fit/specs/Exact: `Printed`), and
+# where the rule says it; the entropy's has no word for it. Only numerals in hundredths are rounded.
+PRINTED = {"inUnits": 1, "inHundredths": 100}
+LISTINGS = {
+    "temperature": ("inUnits", ("air_temperature", "specs/Temperature.antt")),
+    "entropy": ("inUnits", None),
+    "pressure": ("inUnits", ("air_pressure", "specs/Pressure.antt")),
+}
+
 # the listing's labels, in the order of a band's pieces
 TEMPERATURE = {"low": (310, 320, 330, 340), "middle": (360, 370, 380, 390), "high": (410, 420, 430)}
 ENTROPY = {"low": 80, "middle": 90, "high": 100}
@@ -39,26 +48,26 @@ PARTS = (("A", FIRST), ("B", SECOND), ("q", TERMS))
 SIZES = {"temperature low": 614, "temperature middle": 634, "temperature high": 406}
 SIZES |= {"entropy": 234, "pressure low": 790, "pressure middle": 672, "pressure high": 410}
 
-# numerals near and at half a unit of 10^-10, and the units that they are rounded to
+# numerals in hundredths, near and at half a unit of 10^-10, and the units that they are rounded to: none of them is whole units
 ROUNDED = {"0.5E-10": 1, "-0.5E-10": -1, "2.5E-10": 3, "-2.5E-10": -3, "0.49E-10": 0, "-0.49E-10": 0, "-3.32714E-06": -33271}
+WHOLE = {"0": 0, "1.E-10": 1, "-1.00E-10": -1, "1.3965E00": 13965000000}  # whole units, in either form
+TOO_FINE = ("0.005E-10", "-0.495E-10", "-3.327141E-07")  # no whole hundredths either
 
 
-def printed(file):
+def printed(kind):
     """label and name, to the numerals in whole numbers of 10^-10, and to a sign as it is"""
-    rows = {}
+    rows, file, parts = {}, f"{kind}.txt", PRINTED[LISTINGS[kind][0]]
     for line in (ROOT / "tests" / "listing" / file).read_text().splitlines():
         if not line or line.startswith("#"):
             continue
         label, name, *numerals = line.split()
         if (int(label), name) in rows:
             sys.exit(f"{file}: {label} {name} stands twice")
-        rows[int(label), name] = numerals if name == "SIGN" else [units(n) for n in numerals]
+        try:
+            rows[int(label), name] = numerals if name == "SIGN" else [pack.units(n, parts) for n in numerals]
+        except ValueError as error:
+            sys.exit(f"{file}: {label} {name}: {error}")
     return rows
-
-
-def units(numeral):
-    """the nearest whole unit of 10^-10, a tie away from zero"""
-    return int((Decimal(numeral) * 10**10).quantize(Decimal(1), ROUND_HALF_UP))
 
 
 def spec_lists(kind):
@@ -232,14 +241,26 @@ def gamma(pressure, lists):
     return constants
 
 
+def units_or_none(numeral, parts):
+    try:
+        return pack.units(numeral, parts)
+    except ValueError:
+        return None
+
+
 def rounding():
-    for numeral, unit in ROUNDED.items():
-        same(f"{numeral} in units", (units(numeral), pack.units(numeral)), (unit, unit))
+    """hundredths alone are rounded, and each listing is said to be printed as its rule has it"""
+    for want, forms in ((WHOLE, (1, 100)), (ROUNDED, (100,)), (dict.fromkeys((*ROUNDED, *TOO_FINE)), (1,)), (dict.fromkeys(TOO_FINE), (100,))):
+        for parts in forms:
+            same(f"numerals in parts of {parts}", {numeral: units_or_none(numeral, parts) for numeral in want}, want)
+    for word, rule in LISTINGS.values():
+        if rule:
+            same(f"{rule[0]}: how numbers are printed", found(r"^ *pieceAt = λ y z\. (in\w+) \(", source(*rule)), word)
 
 
 def main():
     rounding()
-    temperature, entropy, pressure = (printed(f"{kind}.txt") for kind in ("temperature", "entropy", "pressure"))
+    temperature, entropy, pressure = map(printed, LISTINGS)
     lists = wanted(temperature, entropy, pressure)
     ends(temperature, entropy)
     for name, labels in TEMPERATURE.items():

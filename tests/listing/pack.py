@@ -23,9 +23,13 @@ def packed(numbers):
     return places, words
 
 
-def units(numeral):
-    """a numeral in whole units of 10^-10: the nearest, a tie away from zero"""
-    return int((Decimal(numeral) * 10**10).quantize(Decimal(1), ROUND_HALF_UP))
+def units(numeral, parts=1):
+    """a numeral in whole units of 10^-10. It must be a whole number of their parts; of hundredths the unit is the nearest, a tie
+    away from zero"""
+    exact = Decimal(numeral) * 10**10
+    if exact * parts % 1:
+        raise ValueError(f"{numeral} is no whole number of {'units' if parts == 1 else 'hundredths of a unit'} of 10^-10")
+    return int(exact.quantize(Decimal(1), ROUND_HALF_UP))
 
 
 def printed(file):
