@@ -269,13 +269,13 @@ eas_text eas_read(const uint8_t *spelled, size_t n, uint8_t *out, size_t room);
  * bytes are always enough. */
 eas_text eas_forward(const uint8_t *sheet, size_t n, uint8_t *out, size_t room);
 
-/* Writes a sheet of version 2 in version 1, for older copies of the library: 1 to 6 or 16 of the sheet, 3 for every
- * version but 2; then 18 where a remark is not empty; then 14. The result has a byte less for each record.
+/* Writes a sheet of version 2 in version 1, for copies of the library before 2.4.0, which read no other: 1 to 6 or 16
+ * of the sheet, 3 for every version but 2; then 18 where a remark is not empty; then 14. The result has a byte less for
+ * each record. A copy that does not know a record's kind refuses the whole sheet with 6: kind 3 came with 2.2.0.
  *
- * What either writes is an accepted sheet with the same names, kinds and values in the same order: every other call
- * that takes a sheet, eas_add aside, gives for the one what it gives for the other, the places of names and remarks
- * aside. Forward then
- * back, and back then forward, return the same bytes. */
+ * What either writes is a sheet that this copy accepts, with the same names, kinds and values in the same order: every
+ * other call that takes a sheet, eas_add aside, gives for the one what it gives for the other, the places of names and
+ * remarks aside. Forward then back, and back then forward, return the same bytes. */
 eas_text eas_back(const uint8_t *sheet, size_t n, uint8_t *out, size_t room);
 
 /* Begins a walk over the records that a sheet of either version has now: 1 to 6 or 16. */

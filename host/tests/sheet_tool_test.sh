@@ -381,6 +381,37 @@ ends "a remark in standard input" 1 "sheet_tool: standard input: record 2: $rema
 sheet_tool: standard input: note: unpack it, clear the remarks and pack the text: that makes a sheet of version 1" \
     "$tool" back < "$work/wrong.eas"
 
+# told_kinds WHAT SHEET STATES: the way back from a sheet of version 1 in version 2 ends with 0, writes the sheet and tells
+# these states, or nothing, because copies before 2.2.0 do not know their kind.
+told_kinds() {
+    message="sheet_tool: $work/from.eas: note: a copy before 2.2.0 refuses the sheet with 6, because it does not know kind 3 \
+(pressure wanted), which $3"
+    test -n "$3" || message=
+    "$tool" forward -o "$work/from.eas" "$2"
+    ends "back: $1" 0 "$message" "$tool" back -o "$work/old.eas" "$work/from.eas"
+    expect "back: $1: the sheet is written" cmp "$work/old.eas" "$2"
+}
+# kinds_3 NAMES: a sheet with a state of kind 3 for each spelled name, one a line, between two of other kinds.
+kinds_3() {
+    { printf 'spelled,kind,first,density\nx,1,1,1\n'; sed 's/$/,3,1,1/'; echo y,2,1,1; } | "$tool" pack -o "$work/three.eas"
+}
+told_kinds "no later kind" samples/sample.eas ''
+echo a%2Fb%20%00 | kinds_3
+told_kinds "a later kind" "$work/three.eas" "1 state has: 'a%2Fb%20%00'"
+seq 5 | kinds_3
+told_kinds "five states of a later kind" "$work/three.eas" "5 states have: '1', '2', '3', '4', '5'"
+seq 6 | kinds_3
+told_kinds "six" "$work/three.eas" "6 states have: '1', '2', '3', '4', '5' and 1 more"
+seq 2800 | kinds_3
+told_kinds "thousands" "$work/three.eas" "2800 states have: '1', '2', '3', '4', '5' and 2795 more"
+long=$(printf '%039d' 0 | sed 's/0/%00/g')
+printf "%s\n" "$long%01" "$long%02" "$long%03" "$long%04" "$long%05" "$long%06" | kinds_3
+told_kinds "the longest names" "$work/three.eas" \
+    "6 states have: '$long%01', '$long%02', '$long%03', '$long%04', '$long%05' and 1 more"
+ends "forward tells no kinds" 0 '' "$tool" forward -o "$work/from.eas" "$work/three.eas"
+ends "a full disk, and no note" 1 "sheet_tool: /dev/full: No space left on device" \
+    "$tool" back -o /dev/full "$work/from.eas"
+
 # 3,132 states are the most of version 2: 256 with names of a byte, the others with two. longest MORE [STATES]: so many
 # states, where the last MORE have a byte more.
 longest() {

@@ -10,9 +10,9 @@ static const quantity entropy = {"entropy", "J/(kg K)", "entropy_J_kg_K", 4};
 
 /* Where a line of text names no kind, the first row that has its columns is taken. */
 const kind_row kinds[KIND_COUNT] = {
-    {1, 'T', &pressure, &density, &temperature, 6},
-    {2, 'S', &energy, &density, &entropy, 4},
-    {3, 'P', &energy, &density, &pressure, 0},
+    {1, 'T', &pressure, &density, &temperature, 6, NULL},
+    {2, 'S', &energy, &density, &entropy, 4, NULL},
+    {3, 'P', &energy, &density, &pressure, 0, "2.2.0"},
 };
 
 const quantity *const given[GIVEN_COUNT] = {&pressure, &energy, &density};

@@ -18,6 +18,7 @@ typedef struct {
     char letter; /* in an answer and a listing line */
     const quantity *first, *second, *wanted;
     unsigned mark_decimals; /* a plot mark has the wanted quantity in units of 10^-mark_decimals */
+    const char *since;      /* the first version of the library that knows the kind; null where every one does */
 } kind_row;
 
 enum { KIND_COUNT = 3, GIVEN_COUNT = 3 };
