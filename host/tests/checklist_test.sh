@@ -225,6 +225,13 @@ for fault in 1 2 3 4 5 7; do
     done
     expect "fault $fault is found, by a walk" finds_in_samples $fault $check next
 done
+for fault in 1 2; do
+    for entry in find remark; do
+        expect "fault $fault is found, by $entry alone" finds $fault $fault $entry
+    done
+done
+expect "a row that is given for a number is told" tells 2 find \
+    "^ *record .*(wrong: no state has this name, that is .* in row .*; right is nothing: no state of the sheet has this name)"
 for fault in 3 4 5 7 8; do
     due=$fault
     test $fault -le 5 || due=3
@@ -232,7 +239,7 @@ for fault in 3 4 5 7 8; do
         expect "fault $fault in pressures is found, by ${entry:-every entry}" finds_pressures $fault $due $entry
     done
 done
-for entry in "" search plot line list next; do
+for entry in "" search plot line list next find remark; do
     expect "an answer that depends on remarks is found, by ${entry:-every entry}" finds_by_remarks $entry
 done
 expect "without remarks it is right" passes_without_remarks
@@ -252,6 +259,22 @@ expect "a sheet that grows wrongly is told" tells 12 add \
 for entry in "" next; do
     expect "a walk over states that are added later is found, by ${entry:-every entry}" finds 13 1 $entry
 done
+for entry in "" find; do
+    expect "another name's place is found, by ${entry:-every entry}" finds 14 1 $entry
+done
+expect "another name's place is told" tells 14 find \
+    "^ *record *kind 1, .*, its name 2 bytes from .* (wrong, that is 42 in row 2; right is kind 1, .*, its name 10 bytes from 8 on)"
+for entry in "" record_at; do
+    expect "rows that are counted from 1 are found, by ${entry:-every entry}" finds 15 2 $entry
+done
+expect "another row is told" tells 15 record_at "^ *row *kind 1, .* (wrong, that is 42 in row 2; right is kind 1, .*)"
+for entry in "" remark; do
+    expect "a remark's place that is always 0 is found, by ${entry:-every entry}" finds 16 1 $entry
+    expect "the next record's remark is found, by ${entry:-every entry}" finds 17 1 $entry
+done
+expect "a remark's wrong place is told" tells 16 remark \
+    "^ *remark *0 bytes from 0 on (wrong; right is 0 bytes from 35 on)"
+expect "another's remark is told" tells 17 remark "^ *remark .* (wrong, that is 42 in row 2; right is 0 bytes from 35 on)"
 expect "such a walk is told" tells 13 next "^ *walk .*(right, but another where states are added to the sheet)"
 expect "remarks that change an answer are named" names_cause 9 "the sheet's remarks change what is shown)" "$work/remarks.eas"
 expect "a neighbour's curve is named" names_cause 3 "by the curve of the neighbouring density range)"

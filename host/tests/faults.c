@@ -1,8 +1,8 @@
 /* Linked in front of the library by the linker's --wrap, this gives the answers of a wrong calculator. In the
  * environment FAULT is the fault, of which 1 to 5 must be found by the check of that number in the checklist; ENTRY is
- * the one entry that has it: search, plot, line, list, next, forward, back or add, and without ENTRY, or with an empty
- * one, all have it and eas_evaluate too; LETTER is the one letter of answers that have it, where that is given and not
- * empty.
+ * the one entry that has it: search, plot, line, list, next, find, record_at, remark, forward, back or add, and without
+ * ENTRY, or with an empty one, all have it and eas_evaluate too; LETTER is the one letter of answers that have it,
+ * where that is given and not empty.
  *
  *   1  the search gives 9 for every name with a percent form
  *   2  a name of digits is taken as the number of a row
@@ -17,6 +17,10 @@
  *  11  a conversion to version 1 drops remarks, where 18 is due; check 1 must find it
  *  12  a state is added by its name as it is spelled, never decoded; check 1 must find it
  *  13  a walk goes on over states that were added after its beginning; check 1 must find it
+ *  14  eas_find gives the place of the next record's name; check 1 must find it
+ *  15  eas_record_at counts from 1; check 2 must find it
+ *  16  eas_remark gives every remark from the sheet's first byte on; check 1 must find it
+ *  17  eas_remark gives the remark of the next record; check 1 must find it
  */
 #include <ctype.h>
 #include <math.h>
@@ -38,6 +42,9 @@ eas_text __real_eas_list(const uint8_t *sheet, size_t n, const uint8_t *names, s
 eas_text __real_eas_forward(const uint8_t *sheet, size_t n, uint8_t *out, size_t room);
 eas_text __real_eas_back(const uint8_t *sheet, size_t n, uint8_t *out, size_t room);
 eas_step __real_eas_next(const uint8_t *sheet, size_t n, eas_walk walk, uint8_t *out, size_t room);
+eas_record __real_eas_find(const uint8_t *sheet, size_t n, const uint8_t *spelled, size_t m);
+eas_record __real_eas_record_at(const uint8_t *sheet, size_t n, size_t i);
+eas_part __real_eas_remark(const uint8_t *sheet, size_t n, const uint8_t *spelled, size_t m);
 eas_text __real_eas_add(const uint8_t *sheet, size_t n, const uint8_t *spelled, size_t m, uint32_t kind, uint64_t first,
                         uint64_t second, uint8_t *out, size_t room);
 eas_answer __wrap_eas_search(const uint8_t *sheet, size_t n, const uint8_t *spelled, size_t m);
@@ -48,6 +55,9 @@ eas_text __wrap_eas_list(const uint8_t *sheet, size_t n, const uint8_t *names, s
 eas_text __wrap_eas_forward(const uint8_t *sheet, size_t n, uint8_t *out, size_t room);
 eas_text __wrap_eas_back(const uint8_t *sheet, size_t n, uint8_t *out, size_t room);
 eas_step __wrap_eas_next(const uint8_t *sheet, size_t n, eas_walk walk, uint8_t *out, size_t room);
+eas_record __wrap_eas_find(const uint8_t *sheet, size_t n, const uint8_t *spelled, size_t m);
+eas_record __wrap_eas_record_at(const uint8_t *sheet, size_t n, size_t i);
+eas_part __wrap_eas_remark(const uint8_t *sheet, size_t n, const uint8_t *spelled, size_t m);
 eas_text __wrap_eas_add(const uint8_t *sheet, size_t n, const uint8_t *spelled, size_t m, uint32_t kind, uint64_t first,
                         uint64_t second, uint8_t *out, size_t room);
 /* NOLINTEND(bugprone-reserved-identifier) */
@@ -69,20 +79,43 @@ static bool has_letter(uint32_t letter) {
     return !only || !*only || (uint32_t)*only == letter;
 }
 
-/* The answer of the row that the digits number, from 1; of the name where there is no such row. */
-static eas_answer row_answer(const uint8_t *sheet, size_t n, const uint8_t *digits, size_t m, eas_answer own) {
-    static parsed_sheet parsed;
+/* The records of the sheet that was read last. */
+static parsed_sheet parsed;
+
+/* Reads the sheet; the record, from 0, of the row that the digits number from 1, or SIZE_MAX. */
+static size_t numbered_row(const uint8_t *sheet, size_t n, const uint8_t *digits, size_t m) {
     uint64_t row = 0;
     for (size_t i = 0; i < m; i++) {
         if (!isdigit(digits[i]) || row > SHEET_MAX_RECORDS)
-            return own;
+            return SIZE_MAX;
         row = 10 * row + (uint64_t)(digits[i] - '0');
     }
     sheet_parse(&parsed, sheet, n);
-    if (row == 0 || row > parsed.count)
+    return row == 0 || row > parsed.count ? SIZE_MAX : row - 1;
+}
+
+/* Reads the sheet; the record behind the one whose name starts at a place, or the first one. */
+static size_t next_record(const uint8_t *sheet, size_t n, size_t start) {
+    size_t i = 0;
+    sheet_parse(&parsed, sheet, n);
+    while (i < parsed.count && parsed.records[i].start != start)
+        i++;
+    return i + 1 < parsed.count ? i + 1 : 0;
+}
+
+/* The answer of the row that the digits number; of the name where there is no such row. */
+static eas_answer row_answer(const uint8_t *sheet, size_t n, const uint8_t *digits, size_t m, eas_answer own) {
+    size_t row = numbered_row(sheet, n, digits, m);
+    if (row == SIZE_MAX)
         return own;
-    const eas_record *record = &parsed.records[row - 1];
+    const eas_record *record = &parsed.records[row];
     return __real_eas_evaluate(record->kind, record->first, record->second);
+}
+
+/* Whether a name is wrongly not found. */
+static bool is_lost(const uint8_t *sheet, size_t n, const uint8_t *spelled, size_t m) {
+    return (fault() == 1 && memchr(spelled, '%', m)) ||
+           (fault() == 9 && __real_eas_remark(sheet, n, spelled, m).length > 0);
 }
 
 static fitted_property property_of(const eas_answer *a) {
@@ -177,9 +210,7 @@ static eas_answer faulty_value(eas_answer a) {
 
 static eas_answer faulty_answer(const uint8_t *sheet, size_t n, const uint8_t *spelled, size_t m) {
     eas_answer a = __real_eas_search(sheet, n, spelled, m);
-    if (fault() == 1 && memchr(spelled, '%', m))
-        return (eas_answer){.number = 9};
-    if (fault() == 9 && eas_remark(sheet, n, spelled, m).length > 0)
+    if (is_lost(sheet, n, spelled, m))
         return (eas_answer){.number = 9};
     if (fault() == 2)
         return row_answer(sheet, n, spelled, m, a);
@@ -241,10 +272,47 @@ eas_step __wrap_eas_next(const uint8_t *sheet, size_t n, eas_walk walk, uint8_t 
     step.walk.count = walk.count;
     if (step.length == 0)
         return step;
-    eas_record record = eas_record_at(sheet, n, walk.given);
+    eas_record record = __real_eas_record_at(sheet, n, walk.given);
     written_name name = name_write(sheet + record.start, record.length);
     step.length = faulty_line(sheet, n, name.bytes, name.length, out, room).length;
     return step;
+}
+
+eas_record __wrap_eas_find(const uint8_t *sheet, size_t n, const uint8_t *spelled, size_t m) {
+    eas_record own = __real_eas_find(sheet, n, spelled, m);
+    if (!has_fault("find"))
+        return own;
+    if (is_lost(sheet, n, spelled, m))
+        return (eas_record){.number = 9};
+    size_t row = fault() == 2 ? numbered_row(sheet, n, spelled, m) : SIZE_MAX;
+    if (row != SIZE_MAX)
+        return parsed.records[row];
+    if (fault() == 14 && !own.number) {
+        const eas_record *other = &parsed.records[next_record(sheet, n, own.start)];
+        own.start = other->start;
+        own.length = other->length;
+    }
+    return own;
+}
+
+eas_record __wrap_eas_record_at(const uint8_t *sheet, size_t n, size_t i) {
+    return __real_eas_record_at(sheet, n, fault() == 15 && has_fault("record_at") ? i + 1 : i);
+}
+
+eas_part __wrap_eas_remark(const uint8_t *sheet, size_t n, const uint8_t *spelled, size_t m) {
+    eas_part own = __real_eas_remark(sheet, n, spelled, m);
+    if (!has_fault("remark"))
+        return own;
+    if (is_lost(sheet, n, spelled, m))
+        return (eas_part){.number = 9};
+    size_t row = fault() == 2 ? numbered_row(sheet, n, spelled, m) : SIZE_MAX;
+    if (row != SIZE_MAX)
+        return parsed.remarks[row];
+    if (fault() == 16)
+        own.start = 0;
+    if (fault() == 17 && !own.number)
+        own = parsed.remarks[next_record(sheet, n, __real_eas_find(sheet, n, spelled, m).start)];
+    return own;
 }
 
 eas_text __wrap_eas_add(const uint8_t *sheet, size_t n, const uint8_t *spelled, size_t m, uint32_t kind, uint64_t first,
@@ -257,7 +325,6 @@ eas_text __wrap_eas_add(const uint8_t *sheet, size_t n, const uint8_t *spelled, 
 
 /* A converted sheet without its last state. */
 static eas_text lose_last_state(uint8_t *sheet, eas_text converted) {
-    static parsed_sheet parsed;
     sheet_parse(&parsed, sheet, converted.length);
     if (converted.number || parsed.count == 0)
         return converted;

@@ -1,8 +1,10 @@
 /* checklist [SHEET]...: the field engineer's five checks of an installed calculator, on each given sheet and on the
  * shipped samples. docs/CHECKLIST.md says what each check is and what it catches. */
+#include <inttypes.h>
 #include <string.h>
 
 #include "checklist_judge.h"
+#include "checklist_parts.h"
 #include "common.h"
 #include "decimal.h"
 #include "kinds.h"
@@ -14,8 +16,9 @@ static const char help[] = "Makes the field engineer's five checks on each SHEET
                            "in a run list of all names and by a walk over the sheet. What is shown is compared with\n"
                            "an exact calculation that shares no code with the library, and with what the same sheet\n"
                            "shows without its remarks, converted to its other version and with states added during\n"
-                           "the walk. A check that lacks a state in a SHEET says so and is no pass for it: the status\n"
-                           "is 0 only where every check passed, else 1.";
+                           "the walk. Every record, by its name and by its row, and every remark is compared with the\n"
+                           "sheet's bytes. A check that lacks a state in a SHEET says so and is no pass for it: the\n"
+                           "status is 0 only where every check passed, else 1.";
 
 static const char *const samples[] = {
     "sample", "slash-and-space", "digits-only", "edges-and-transitions", "energy-and-pressure", "with-remarks"};
@@ -100,11 +103,53 @@ static void print_due(const asked_name *name, const named_state *s) {
         printf("about %.3f %s\n", s->right.value, kind_of(s->record.kind)->wanted->unit);
 }
 
+static const char *const way_words[WAYS] = {"search", "plot mark", "listing line", "run list",
+                                            "walk",   "record",    "row",          "remark"};
+
+enum { TEXT_ROOM = 192 };
+
+static bool is_own(cause c) {
+    return c == RIGHT || c == BY_CONVERSION || c == BY_ADDITION;
+}
+
+/* Which other state it is that a way shows or gives. */
+static void print_other(const asked_sheet *sheet, size_t other) {
+    if (other == SIZE_MAX)
+        return;
+    const written_name *spelled = &sheet->states[other].spelled;
+    printf(", that is %.*s in row %zu", (int)spelled->length, (const char *)spelled->bytes, other + 1);
+}
+
+/* A part of the sheet in words. */
+static void describe_part(char text[TEXT_ROOM], way w, const eas_record *record, const eas_part *remark) {
+    uint32_t number = w == BY_REMARK ? remark->number : record->number;
+    if (number)
+        snprintf(text, TEXT_ROOM, "nothing: %s", eas_reason(number));
+    else if (w == BY_REMARK)
+        snprintf(text, TEXT_ROOM, "%zu bytes from %zu on", remark->length, remark->start);
+    else
+        snprintf(text, TEXT_ROOM, "kind %" PRIu32 ", %" PRIu64 " and %" PRIu64 ", its name %zu bytes from %zu on",
+                 record->kind, record->first, record->second, record->length, record->start);
+}
+
+static void print_part(const fault *f, way w) {
+    char text[TEXT_ROOM];
+    eas_record record = record_given(f->name, w), due = record_due(&f->sheet->parsed, f->name);
+    eas_part remark = f->name->remark, remark_is = remark_due(&f->sheet->parsed, f->name);
+    describe_part(text, w, &record, &remark);
+    printf("%*s%-13s %s (%s", INDENT, "", way_words[w], text, cause_words[f->causes[w]]);
+    if (!is_own(f->causes[w]) && !part_is_right(&f->sheet->parsed, f->name, w)) {
+        print_other(f->sheet, state_given(f->sheet, f->name, w));
+        describe_part(text, w, &due, &remark_is);
+        printf("; right is %s", text);
+    }
+    printf(")\n");
+}
+
 static void print_shown(const fault *f, way w) {
-    static const char *const way_words[WAYS] = {"search", "plot mark", "listing line", "run list", "walk"};
     const named_state *state = &f->sheet->states[f->name->state];
     shown s = shown_by(f->name, w);
-    char text[128];
+    char text[TEXT_ROOM];
     if (!s.readable)
         snprintf(text, sizeof text, "no line that can be read");
     else if (s.number)
@@ -115,12 +160,7 @@ static void print_shown(const fault *f, way w) {
         snprintf(text, sizeof text, "%.6f %s", shown_in_units(&state->record, &s),
                  kind_of(state->record.kind)->wanted->unit);
     printf("%*s%-13s %s (%s", INDENT, "", way_words[w], text, cause_words[f->causes[w]]);
-    bool is_own = f->causes[w] == RIGHT || f->causes[w] == BY_CONVERSION || f->causes[w] == BY_ADDITION;
-    size_t other = is_own ? SIZE_MAX : state_shown(f->sheet, f->name, &s);
-    if (other != SIZE_MAX) {
-        const written_name *spelled = &f->sheet->states[other].spelled;
-        printf(", that is %.*s in row %zu", (int)spelled->length, (const char *)spelled->bytes, other + 1);
-    }
+    print_other(f->sheet, is_own(f->causes[w]) ? SIZE_MAX : state_shown(f->sheet, f->name, &s));
     printf(")\n");
 }
 
@@ -134,7 +174,7 @@ static void print_fault(const tally *t) {
     print_due(f->name, state);
     for (way w = 0; w < WAYS; w++)
         if (is_asked_by(f->name, w))
-            print_shown(f, w);
+            (is_part(w) ? print_part : print_shown)(f, w);
 }
 
 /* A name of the sheet letter for letter, spelled where that is no text. */
@@ -266,7 +306,8 @@ int main(int argc, char **argv) {
     const tool checklist = {"[SHEET]...", help, options};
     int first = read_options(&checklist, argc, argv);
     bool passed = true;
-    printf("Each state is asked for by search, as a plot mark, as a listing line, in a run list and by a walk.\n\n");
+    printf("Each state is asked for by search, as a plot mark, as a listing line, in a run list and by a walk;\n"
+           "its record, by its name and by its row, and its remark must be what the sheet's bytes say.\n\n");
     for (int i = first; i < argc; i++) {
         char title[4096];
         snprintf(title, sizeof title, "Given sheet %s", argv[i]);

@@ -4,6 +4,7 @@
 #include <stdlib.h>
 #include <string.h>
 
+#include "checklist_parts.h"
 #include "checklist_twins.h"
 #include "options.h"
 #include "reference/answer.h"
@@ -18,7 +19,7 @@ void *checked(void *memory) {
 }
 
 bool is_asked_by(const asked_name *name, way w) {
-    return w != BY_WALK || name->as == AS_WRITTEN;
+    return (w != BY_WALK && w != BY_ROW) || name->as == AS_WRITTEN;
 }
 
 bool has_signs(const named_state *s) {
@@ -118,6 +119,7 @@ static void ask_alone(asked_sheet *sheet, asked_name *name) {
     listing_line *line = &name->lines[BY_LINE];
     eas_text text = eas_line(sheet->bytes, sheet->n, name->spelled, name->length, (uint8_t *)line->bytes, LINE_MOST);
     line->length = text.number ? 0 : text.length;
+    ask_parts(sheet, name);
 }
 
 /* Hands each name its line of a text; the last one also what is left over. */
@@ -224,5 +226,7 @@ asked_sheet *ask_sheet(const char *path) {
     ask_all(sheet);
     ask_twins(sheet);
     find_truths(sheet);
+    for (way w = SHOWN_WAYS; w < WAYS; w++)
+        sheet->numbers_alone[w] = wrong_for_numbers_alone(sheet, w);
     return sheet;
 }

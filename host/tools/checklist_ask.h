@@ -1,5 +1,5 @@
 /* The names of a sheet, asked for as a user does: by search, as a plot mark, as a listing line, in a run list of all of
- * them and by a walk over the sheet. */
+ * them and by a walk over the sheet; and their records, by name and by row, with their remarks. */
 #ifndef CHECKLIST_ASK_H
 #define CHECKLIST_ASK_H
 
@@ -11,7 +11,20 @@
 #include "reference/name.h"
 #include "reference/sheet.h"
 
-typedef enum { BY_SEARCH, BY_PLOT, BY_LINE, BY_LIST, BY_WALK, WAYS } way;
+/* Up to SHOWN_WAYS a state's answer is shown; behind that a part of the sheet is given: its record by its name and by
+ * its row, and its remark. */
+typedef enum {
+    BY_SEARCH,
+    BY_PLOT,
+    BY_LINE,
+    BY_LIST,
+    BY_WALK,
+    SHOWN_WAYS,
+    BY_FIND = SHOWN_WAYS,
+    BY_ROW,
+    BY_REMARK,
+    WAYS
+} way;
 
 /* A sheet with the same states, in which each name is asked for a second time; GROWN has up to ADDITIONS behind them.
  */
@@ -34,7 +47,7 @@ typedef struct {
     bool allowed;     /* by the reference */
 } named_state;
 
-/* A name and what the library shows for it by each way. */
+/* A name and what the library shows and gives for it by each way. */
 typedef struct {
     asked_as as;
     bool absent;  /* no state has the name */
@@ -43,8 +56,10 @@ typedef struct {
     uint8_t spelled[SPELLED_MOST];
     eas_answer answer;
     eas_mark mark;
-    listing_line lines[WAYS];  /* from BY_LINE on */
-    bool differs[TWINS][WAYS]; /* another is shown in a twin */
+    listing_line lines[SHOWN_WAYS]; /* from BY_LINE on */
+    eas_record found, in_row;
+    eas_part remark;
+    bool differs[TWINS][WAYS]; /* another is shown in a twin, or what is given there is wrong */
 } asked_name;
 
 /* What the conversion of a sheet to its other version gives as a whole. */
@@ -69,6 +84,7 @@ typedef struct {
     asked_name *names;
     conversion_result conversion;
     addition_result addition;
+    bool numbers_alone[WAYS]; /* from BY_FIND on, whether only numbers are given what is wrong, as if they were rows */
 } asked_sheet;
 
 /* Reads a sheet and asks for all its names. Null, with a message, where it cannot be read or is refused. */
@@ -94,7 +110,7 @@ void end_walk(asked_walk *w, asked_sheet *sheet);
 void ask_names(asked_sheet *sheet);
 void ask_all(asked_sheet *sheet);
 
-/* A walk gives each state once, its name as written. */
+/* A walk and the rows give each state once, its name as written. */
 bool is_asked_by(const asked_name *name, way w);
 
 /* The name of a state has percent forms in its spelling; digits only. */

@@ -5,6 +5,7 @@
 #include <stdlib.h>
 #include <string.h>
 
+#include "checklist_parts.h"
 #include "kinds.h"
 #include "reference/answer.h"
 
@@ -166,13 +167,33 @@ static cause cause_by_value(double value, double unit, const right_state *right)
     return nearest;
 }
 
+/* What is right in the sheet itself may be another in a twin. */
+static cause cause_by_twin(const asked_name *name, way w) {
+    return name->differs[WITHOUT_REMARKS][w] ? BY_REMARKS
+           : name->differs[CONVERTED][w]     ? BY_CONVERSION
+           : name->differs[GROWN][w]         ? BY_ADDITION
+                                             : RIGHT;
+}
+
+static cause cause_of_part(const asked_sheet *sheet, const asked_name *name, way w) {
+    if (!is_asked_by(name, w) || part_is_right(&sheet->parsed, name, w))
+        return cause_by_twin(name, w);
+    if (name->absent)
+        return FOUND_ABSENT;
+    if (part_refusal(name, w))
+        return NOT_FOUND;
+    return state_given(sheet, name, w) != SIZE_MAX ? ANOTHERS : OTHERWISE;
+}
+
 static cause cause_of(const asked_sheet *sheet, const asked_name *name, way w) {
     const named_state *state = &sheet->states[name->state];
     const right_state *right = &state->right;
+    if (is_part(w))
+        return cause_of_part(sheet, name, w);
     if (name->differs[WITHOUT_REMARKS][w])
         return BY_REMARKS;
     if (!is_asked_by(name, w) || is_right(name, state, w))
-        return name->differs[CONVERTED][w] ? BY_CONVERSION : name->differs[GROWN][w] ? BY_ADDITION : RIGHT;
+        return cause_by_twin(name, w);
     if (name->absent)
         return FOUND_ABSENT;
     shown s = shown_by(name, w);
@@ -232,8 +253,9 @@ static bool is_new_row(const asked_sheet *sheet, const named_state *s) {
     return number >= sheet->parsed.count && number <= sheet->parsed.count + ADDITIONS;
 }
 
-/* A fault that a check names goes to that check alone, any other to all that look at the state. */
-static unsigned charged_checks(const asked_sheet *sheet, const asked_name *name, unsigned looking, cause c) {
+/* A fault that a check names goes to that check alone, any other to all that look at the state. Of a part of the sheet
+ * a wrong row goes to the numbers, and so does what is wrong for numbers alone. */
+static unsigned charged_checks(const asked_sheet *sheet, const asked_name *name, unsigned looking, way w, cause c) {
     unsigned by_name = looking & (BIT(SIGNS) | BIT(DIGITS)), by_value = looking & ~by_name;
     if (c == BY_REMARKS || c == BY_CONVERSION)
         return BIT(SIGNS);
@@ -241,6 +263,8 @@ static unsigned charged_checks(const asked_sheet *sheet, const asked_name *name,
         return BIT(name->as == ROW_NUMBER ? DIGITS : SIGNS);
     if (c == BY_ADDITION)
         return BIT(is_new_row(sheet, &sheet->states[name->state]) ? DIGITS : SIGNS);
+    if (is_part(w))
+        return BIT(w == BY_ROW || sheet->numbers_alone[w] ? DIGITS : SIGNS);
     if (c == NOT_FOUND || c == ANOTHERS)
         return by_name ? by_name : BIT(OTHERS);
     if ((c == NEIGHBOURS || c == NOT_JOINED || c == END_DENSITIES) && by_value & BIT(EDGES))
@@ -255,7 +279,7 @@ static unsigned judge_name(const asked_sheet *sheet, const asked_name *name, cau
     unsigned charged = 0, looking = name->absent ? 0 : checks_of(sheet, &sheet->states[name->state]);
     for (way w = 0; w < WAYS; w++) {
         causes[w] = cause_of(sheet, name, w);
-        charged |= causes[w] == RIGHT ? 0 : charged_checks(sheet, name, looking, causes[w]);
+        charged |= causes[w] == RIGHT ? 0 : charged_checks(sheet, name, looking, w, causes[w]);
     }
     return charged;
 }

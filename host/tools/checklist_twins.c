@@ -4,6 +4,7 @@
 #include <string.h>
 #include <strings.h>
 
+#include "checklist_parts.h"
 #include "reference/add.h"
 #include "reference/answer.h"
 #include "reference/convert.h"
@@ -24,15 +25,33 @@ static bool same_lines(const listing_line *a, const listing_line *b) {
     return a->length == b->length && !memcmp(a->bytes, b->bytes, a->length);
 }
 
-/* Notes where a twin shows another, and frees it. */
-static void compare_with(asked_sheet *sheet, twin t, asked_sheet *other) {
+/* Notes where a twin shows another. */
+static void compare_shown(asked_name *own, twin t, const asked_name *its) {
+    own->differs[t][BY_SEARCH] = answers_differ(&own->answer, &its->answer) != NULL;
+    own->differs[t][BY_PLOT] = !same_mark(own->mark, its->mark);
+    for (way w = BY_LINE; w < SHOWN_WAYS; w++)
+        own->differs[t][w] = !same_lines(&own->lines[w], &its->lines[w]);
+}
+
+/* Notes where a twin gives what its own bytes do not say, or these say another beside the place. */
+static void compare_given(asked_sheet *sheet, twin t, const asked_sheet *other, const parsed_sheet *parsed, size_t i) {
+    asked_name *own = &sheet->names[i];
+    eas_record record = record_due(&sheet->parsed, own), its = record_due(parsed, own);
+    bool same = same_but_place(sheet->bytes, record, other->bytes, its);
+    for (way w = SHOWN_WAYS; w < WAYS; w++)
+        own->differs[t][w] = is_asked_by(own, w) && (!part_is_right(parsed, &other->names[i], w) || !same);
+}
+
+static void compare_with(asked_sheet *sheet, twin t, const asked_sheet *other) {
+    static parsed_sheet parsed;
+    sheet_parse(&parsed, other->bytes, other->n);
     for (size_t i = 0; i < sheet->count; i++) {
-        asked_name *own = &sheet->names[i], *its = &other->names[i];
-        own->differs[t][BY_SEARCH] = answers_differ(&own->answer, &its->answer) != NULL;
-        own->differs[t][BY_PLOT] = !same_mark(own->mark, its->mark);
-        for (way w = BY_LINE; w < WAYS; w++)
-            own->differs[t][w] = !same_lines(&own->lines[w], &its->lines[w]);
+        compare_shown(&sheet->names[i], t, &other->names[i]);
+        compare_given(sheet, t, other, &parsed, i);
     }
+}
+
+static void free_twin(asked_sheet *other) {
     free(other->names);
     free(other);
 }
@@ -41,6 +60,7 @@ static void ask_twin(asked_sheet *sheet, twin t, const uint8_t *bytes, size_t n)
     asked_sheet *other = twin_of(sheet, bytes, n);
     ask_all(other);
     compare_with(sheet, t, other);
+    free_twin(other);
 }
 
 /* ---- the other version */
@@ -125,10 +145,11 @@ static void ask_grown(asked_sheet *sheet) {
     if (record_count(other->bytes) == sheet->parsed.count) {
         walk_growing(other);
         ask_names(other);
+        compare_with(sheet, GROWN, other);
     }
     if (!sheet->addition.wrong)
         sheet->addition = other->addition;
-    compare_with(sheet, GROWN, other);
+    free_twin(other);
 }
 
 void ask_twins(asked_sheet *sheet) {
