@@ -287,7 +287,11 @@ eas_begun eas_begin(const uint8_t *sheet, size_t n);
  * walk as it was: after 14 call again with EAS_LINE_ROOM bytes, which are always enough.
  *
  * Every step checks the sheet: a walk over the fullest one, 3,289 records, takes about 57 ms where eas_list takes 1.5
- * for all their names. A listing to which nothing is added goes by eas_list. */
+ * for all their names. A listing to which nothing is added goes by eas_list.
+ *
+ * That holds of names that nobody chose to make a sheet slow. The names of a sheet are indexed by a fixed hash, and
+ * names can be chosen that all fall together. Then every call that checks the sheet takes up to about 20 ms in place of
+ * 0.02, a walk about 40 s, eas_list up to 0.4 s: so much the slowest sheets took that were found. */
 eas_step eas_next(const uint8_t *sheet, size_t n, eas_walk walk, uint8_t *out, size_t room);
 
 /* Writes a sheet of version 2 with one more record behind the others, its remark empty: 1 to 6 or 16 of the sheet, 3

@@ -15,6 +15,7 @@
 #include <time.h>
 #include <unistd.h>
 
+#include "chain.h"
 #include "plain/baseline.h"
 #include "plain/tgas.h"
 #include "random.h"
@@ -49,6 +50,13 @@ static size_t forward_size, small_back_size;
 /* The fullest sheet of version 2 but for its last state, which therefore takes one more. */
 static uint8_t growing_sheet[SHEET_MOST];
 static size_t growing_size;
+
+/* A sheet as slow as any that was found: all its names fall into one chain of the library's index, and it cannot
+ * be foretold where two of them differ. Eight bytes of a name are the same in all, four have one of two values each,
+ * three put it into the chain. */
+enum { CHAINED_SAME = 8, CHAINED_EITHER = 4, CHAINED_NAME = CHAINED_SAME + CHAINED_EITHER + CHAINED_BYTES };
+static uint8_t chained_sheet[SHEET_MOST], chained_list[SHEET_MOST];
+static size_t chained_size, chained_list_size;
 
 static text small_names[3], full_names[NAMES];
 static uint8_t name_list[SHEET_MOST + 1];
@@ -144,6 +152,30 @@ static void make_full_sheet(void) {
     }
 }
 
+/* As many records as fit, and the list of all their names. */
+static void make_chained_sheet(void) {
+    enum { FORMS = 1 << CHAINED_EITHER };
+    uint8_t names[FORMS][CHAINED_NAME] = {0};
+    random_source r = random_case(SEED, 1, 0);
+    size_t at = HEAD;
+    for (unsigned i = 0; i < FORMS * CHAINED_NAME; i++) {
+        unsigned form = i / CHAINED_NAME, place = i % CHAINED_NAME;
+        if (place < CHAINED_SAME + CHAINED_EITHER)
+            names[form][place] = place < CHAINED_SAME ? 'x' : (uint8_t)('a' + (form >> (place - CHAINED_SAME) & 1));
+    }
+    chained_size = put_head(chained_sheet);
+    while (length_with(chained_sheet, chained_size, CHAINED_NAME, 0) <= SHEET_MOST) {
+        uint8_t *name = names[random_below(&r, FORMS)];
+        pair p = temperatures[record_count(chained_sheet) % states];
+        next_in_chain(name, CHAINED_NAME);
+        chained_size = append_record(chained_sheet, chained_size, name, CHAINED_NAME, 1, p.first, p.second);
+        state s = next_state(chained_sheet, &at);
+        memcpy(chained_list + chained_list_size, s.spelled, s.spelled_length);
+        chained_list_size += s.spelled_length;
+        chained_list[chained_list_size++] = '\n';
+    }
+}
+
 /* The last record has a name of two bytes and an empty remark. */
 static void make_growing_sheet(void) {
     memcpy(growing_sheet, remarked_sheet, remarked_size);
@@ -170,7 +202,7 @@ static void make_names(void) {
     name_list_size = used;
 }
 
-enum { SMALL_CALLS = 30000, FULL_CALLS = 300 };
+enum { SMALL_CALLS = 30000, FULL_CALLS = 300, CHAINED_CALLS = 3 };
 
 /* A timed job: the sum of one number a call, so that no call can be left out. */
 #define JOB(name, calls, number)                                                                                       \
@@ -237,6 +269,10 @@ JOB(library_step_small, SMALL_CALLS, eas_next(small_sheet, small_size, walk_at(i
 JOB(plain_step_small, SMALL_CALLS, baseline_next(small_sheet, small_size, walk_at(i % 3), line, sizeof line).length)
 JOB(library_step, FULL_CALLS, eas_next(full_sheet, full_size, walk_at(i), line, sizeof line).length)
 JOB(plain_step, FULL_CALLS, baseline_next(full_sheet, full_size, walk_at(i), line, sizeof line).length)
+JOB(library_check_chained, CHAINED_CALLS, eas_check(chained_sheet, chained_size))
+JOB(plain_check_chained, CHAINED_CALLS, baseline_check(chained_sheet, chained_size))
+JOB(library_step_chained, CHAINED_CALLS, eas_next(chained_sheet, chained_size, walk_at(i), line, sizeof line).length)
+JOB(plain_step_chained, CHAINED_CALLS, baseline_next(chained_sheet, chained_size, walk_at(i), line, sizeof line).length)
 JOB(library_line, SMALL_CALLS, eas_line(SMALL, line, sizeof line).length)
 JOB(plain_line, SMALL_CALLS, baseline_line(SMALL, (char *)line))
 JOB(library_lines, NAMES, eas_line(FULL, line, sizeof line).length)
@@ -260,6 +296,16 @@ static double library_list_remarked(void) {
 
 static double plain_list_remarked(void) {
     baseline_listing(remarked_sheet, remarked_size, name_list, name_list_size, nowhere);
+    return fflush(nowhere);
+}
+
+static double library_list_chained(void) {
+    return (double)eas_list(chained_sheet, chained_size, chained_list, chained_list_size, listing, sizeof listing)
+        .length;
+}
+
+static double plain_list_chained(void) {
+    baseline_listing(chained_sheet, chained_size, chained_list, chained_list_size, nowhere);
     return fflush(nowhere);
 }
 
@@ -416,6 +462,7 @@ static void make_all(void) {
     forward_size = baseline_back(remarked_sheet, remarked_size, forward_sheet, sizeof forward_sheet).length;
     small_back_size = baseline_forward(small_sheet, small_size, small_back_sheet, sizeof small_back_sheet).length;
     make_growing_sheet();
+    make_chained_sheet();
     make_names();
     make_titles();
 }
@@ -428,7 +475,9 @@ static void print_head(void) {
     printf("of version 2 %u in %zu, with remarks of %d bytes %u, with the longest %u; ", record_count(remarked_sheet),
            remarked_size, SHORT_REMARK, record_count(short_sheet), record_count(long_sheet));
     printf("the fullest that goes forward has %u in %zu bytes, ", record_count(forward_sheet), forward_size);
-    printf("the one that takes one more %u in %zu.\n", record_count(growing_sheet), growing_size);
+    printf("the one that takes one more %u in %zu; ", record_count(growing_sheet), growing_size);
+    printf("the one whose names fall into one chain %u, with names of %d bytes.\n", record_count(chained_sheet),
+           CHAINED_NAME);
     printf("Processor time: median of %d repetitions (least to most).\n\n", REPETITIONS);
     printf("| what | library | plain C | ratio |\n|---|---|---|---|\n");
 }
@@ -464,6 +513,9 @@ static void measure_rows(void) {
         {walk_title, "ms", library_walk, plain_walk, 1, 1e3},
         {list_title, "ms", library_list, plain_list, 1, 1e3},
         {remarked_title, "ms", library_list_remarked, plain_list_remarked, 1, 1e3},
+        {"check, names in one chain", "ms", library_check_chained, plain_check_chained, CHAINED_CALLS, 1e3},
+        {"step of a walk, names in one chain", "ms", library_step_chained, plain_step_chained, CHAINED_CALLS, 1e3},
+        {"all names in one call, names in one chain", "ms", library_list_chained, plain_list_chained, 1, 1e3},
     };
     for (size_t i = 0; i < sizeof rows / sizeof *rows; i++)
         measure(&rows[i]);

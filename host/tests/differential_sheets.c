@@ -5,6 +5,7 @@
 
 #include "differential.h"
 #include "growth.h"
+#include "length.h"
 #include "lent.h"
 #include "lists.h"
 #include "reach.h"
@@ -267,6 +268,26 @@ static void compare_cuts(random_source *r, tried_sheet *sheet) {
     }
 }
 
+/* Sheets whose names all fall into one chain of the library's index: up to CHAIN_EVERY records each is searched for,
+ * and in every sheet a name of that chain which is not there. */
+static void compare_one_chain(random_source *r, tried_sheet *sheet) {
+    enum { CHAIN_EVERY = 100 };
+    static const size_t counts[] = {1, 2, 3, 4, CHAIN_EVERY, SHEET_ROOM};
+    static parsed_sheet parsed;
+    tried_bytes name, spelling;
+    for (size_t i = 0; i < 2 * LENGTH(counts); i++) {
+        tally_case("one chain", i);
+        one_chain_sheet(sheet, r, counts[i / 2], i % 2 == 1, &name);
+        compare_sheet(r, sheet, counts[i / 2] <= CHAIN_EVERY);
+        sheet_parse(&parsed, sheet->bytes, sheet->n);
+        uint32_t due = i > 2 && i % 2 == 1 ? 16 : 0;
+        tally_check(parsed.number == due, "a sheet of one chain is made for %" PRIu32, due);
+        random_spelling_of(&spelling, r, name.bytes, name.n);
+        compare_case(&(search_case){sheet, &spelling, lent_input(&sheet_lent, sheet->bytes, sheet->n), NULL}, r,
+                     &parsed);
+    }
+}
+
 /* Document 01's printed listing: every line of it has one right form. */
 static void compare_printed_listing(void) {
     static const uint8_t sheet[] = "EAS\0\1\0\3"
@@ -307,6 +328,7 @@ void compare_sheets(uint64_t seed, uint64_t count) {
     compare_edge_lengths(&edges, &sheet);
     compare_edge_lists(&edges, &sheet);
     compare_cuts(&edges, &sheet);
+    compare_one_chain(&edges, &sheet);
     for (uint64_t i = 0; i < count; i++) {
         random_source r = random_case(seed, SHEETS_PART, i);
         tally_case("random sheet", i);

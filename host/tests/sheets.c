@@ -2,6 +2,7 @@
 
 #include <string.h>
 
+#include "chain.h"
 #include "reference/kinds.h"
 #include "states.h"
 
@@ -209,14 +210,40 @@ static void plan_sheet(sheet_plan *plan, random_source *r, int version, bool lar
     }
 }
 
-static void put_sheet(tried_sheet *out, random_source *r, const sheet_plan *plan) {
+static void put_head(tried_sheet *out, int version) {
     out->n = 0;
     put(out, 0x454153, 3);
-    put(out, (uint64_t)plan->version, 2);
+    put(out, (uint64_t)version, 2);
     put(out, 0, 2);
-    size_t count = put_records(out, r, plan);
+}
+
+static void put_count(tried_sheet *out, size_t count) {
     out->bytes[5] = (uint8_t)(count >> 8);
     out->bytes[6] = (uint8_t)count;
+}
+
+static void put_sheet(tried_sheet *out, random_source *r, const sheet_plan *plan) {
+    put_head(out, plan->version);
+    put_count(out, put_records(out, r, plan));
+}
+
+/* Names of three, four and five bytes in turn. */
+void one_chain_sheet(tried_sheet *out, random_source *r, size_t count, bool again, tried_bytes *absent) {
+    tried_bytes names[] = {{.n = 3}, {.n = 4}, {.n = 5}}, first = {0};
+    size_t i = 0;
+    put_head(out, 1);
+    for (; i < count && SHEET_LIMIT - out->n >= 18 + names[i % 3].n; i++) {
+        tried_bytes *name = &names[i % 3];
+        next_in_chain(name->bytes, name->n);
+        if (i == 0)
+            first = *name;
+        size_t left = SHEET_LIMIT - out->n - 18 - name->n;
+        bool is_last = i + 1 == count || left < 18 + 5;
+        put_record(out, r, again && is_last ? &first : name, RECORD_DAMAGES);
+    }
+    put_count(out, i);
+    *absent = names[0];
+    next_in_chain(absent->bytes, absent->n);
 }
 
 void fullest_sheet(tried_sheet *out, random_source *r, int version, size_t n) {

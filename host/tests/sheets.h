@@ -41,6 +41,11 @@ void fullest_sheet(tried_sheet *out, random_source *r, int version, size_t n);
 /* The same of version 2 with remarks of 255 bytes; the last record's takes the bytes that are left over first. */
 void remarked_sheet(tried_sheet *out, random_source *r, size_t n);
 
+/* A sheet of version 1 with so many records, or as many as fit, whose names all fall into one chain of the library's
+ * index; with `again` the last one has the first one's name and makes it 16. `absent` becomes a name of that chain that
+ * no record has. */
+void one_chain_sheet(tried_sheet *out, random_source *r, size_t count, bool again, tried_bytes *absent);
+
 /* A sheet that differs in remarks only from one of version 2 within 65,536 bytes, and is within them too: other remarks
  * in some or all records, a remark that is cut at the end cut otherwise, the rest equal. True where one is cut so. */
 bool change_remarks(tried_sheet *out, random_source *r, const tried_sheet *sheet);
