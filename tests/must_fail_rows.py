@@ -13,9 +13,8 @@ LARGE, MOST = 12, 4  # each edit costs its whole crate: one of more functions th
 TITLE = "## Every edit\n"
 HEAD = """
 The first error that the prover printed for an edit was read when the edit was made; the gate sees only that each is refused. Mostly
-that error is the fact in the row: a statement that is false for the wrong program. Where a function's proof no longer fits its
-changed body, it is that instead, as the log of the edit shows: weigh/quotient_to_thousands is refused because `portion_of` has no
-proof of the changed body.
+it is the fact in the row, a statement that is false for the wrong program. Where a called function's proof no longer fits, the log
+says that first: weigh/quotient_to_thousands is refused because `portion_of` has no proof of the changed body.
 `python3 tests/must_fail_rows.py --write` prints this section from the comments of the edits.
 """
 
