@@ -46,7 +46,7 @@ pub extern "C" fn eas_find(sheet: &[u8], spelled: &[u8]) -> CRecord
     flat_parts::flatten_found(calculator::locate(sheet, spelled))
 }
 
-// The remark of a spelled name's record, as the part of the sheet that holds it.
+// The remark of a spelled name's record, as the part of the sheet that holds it. That its bytes stand there is `FoundRemark` (c_laws/specs/Remarks).
 #[no_mangle]
 pub extern "C" fn eas_remark(sheet: &[u8], spelled: &[u8]) -> CPart
     ensures { λ r. ⌜ r ≡ flatRemark (remarkOf (now (sheet .entry)) (locate (now (sheet .entry)) (now (spelled .entry)))) ⌝ }
@@ -94,7 +94,7 @@ pub extern "C" fn eas_plot(sheet: &[u8], spelled: &[u8]) -> CMark
     flat_parts::flatten_mark(mark::mark_of(calculator::search(sheet, spelled)))
 }
 
-// The listing line of a spelled name, in lent room.
+// The listing line of a spelled name, in lent room. That every line fits 192 bytes is `LineFits` (c_laws/specs/Texts).
 #[no_mangle]
 pub extern "C" fn eas_line(sheet: &[u8], spelled: &[u8], out: &mut [u8]) -> CText
     ensures { λ r. ⌜ r ≡ flatText (outcomeOf (lineIn (length (now (out .entry))) (now (sheet .entry)) (now (spelled .entry)))) ⌝ }
@@ -158,7 +158,8 @@ pub extern "C" fn eas_begin(sheet: &[u8]) -> Begun
     walk::begin(sheet)
 }
 
-// The listing line of a walk's next record, in lent room, and the walk after it. That no add disturbs it is `FlatUndisturbed` (c_laws/specs/Growing).
+// The listing line of a walk's next record, in lent room, and the walk after it. That a walk covers all records is `FlatWalkCovers`, and that no add
+// disturbs it `FlatUndisturbed` (c_laws/specs/Growing).
 #[no_mangle]
 pub extern "C" fn eas_next(sheet: &[u8], walk: Walk, out: &mut [u8]) -> Step
     ensures { λ r. ⌜ r ≡ stepOf walk (stepped chosen (now (sheet .entry)) walk (length (now (out .entry)))) ⌝ }

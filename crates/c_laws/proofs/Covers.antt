@@ -1,82 +1,40 @@
--- A line takes at most `lineRoom` bytes, so that a walk in such rooms covers its records over what C gets too.
+-- A walk in rooms of `lineRoom` bytes covers its records, over what C gets.
 use mathlib.Core.Bool.{Bool, true, false, cond}
-use mathlib.Core.List.{List, [], _∷_, _++_, List·Memᴰ, List·Memᴰ·head, List·Memᴰ·tail}
-use mathlib.Core.Option.{Option, none, some}
+use mathlib.Core.List.{List, [], _∷_, _++_, List·Memᴰ·head, List·Memᴰ·tail}
 use mathlib.Core.Path.{_≡_, refl, sym, ap, subst, _∙_}
-use Prim.Native.Nat.{ℕ, suc, _^_, _≤_, _<_}
+use Prim.Native.Nat.{ℕ, _≤_}
 use native.Mathlib.Nat.{le-trans}
 use native.Mathlib.Omega.{arith}
-use lib.Dec.{ltb, lit≤}
-use lib.IntN.{ℤ, natAbs}
-use lib.ListN.{length, drop, length-append, length-drop}
-use lib.Seq.{length-take-le}
-use Rattle.octets.specs.Room.{Text, text, fitting, written}
+use lib.Dec.{ltb}
+use lib.ListN.{length}
+use Rattle.octets.specs.Room.{Text, text, written}
 use Rattle.octets.proofs.Told.{fits}
 use Rattle.name.specs.Spelling.{spelled}
-use Rattle.name.specs.Name.{isLength, nameOf}
+use Rattle.name.specs.Name.{isLength}
 use Rattle.name.proofs.Ranges.{as-true}
-use Rattle.name.proofs.Written.{short}
 use Rattle.name.proofs.OneSpelling.{name-valid}
-use Rattle.air.specs.declared.Logs.{Logs}
 use Rattle.air.specs.Choices.{chosen}
-use Rattle.air.proofs.Tests.{abs-of}
 use Rattle.state.specs.State.{answerBy}
-use Rattle.drawable.proofs.Answers.{SizedFrom, answer-sized}
-use Rattle.sheet_record.specs.Layout.{layoutOf, layoutIn}
-use Rattle.sheet_record.specs.Front.{nameIn}
 use Rattle.sheet_record.specs.declared.Record.{Record}
 use Rattle.sheet.specs.Sheet.{Sheet, records, sheetOf}
 use Rattle.sheet_version.proofs.Version.{read-of}
 use Rattle.sheet_search.specs.declared.Lookup.{Lookup}
 use Rattle.sheet_search.specs.declared.Lookup.the-variants.{Hit, Miss}
-use Rattle.sheet_search.proofs.Locate.{Fit, finds}
 use Rattle.sheet_walk.specs.Records.{recordIn, recordBy}
 use Rattle.sheet_walk.proofs.Pages.{numbered-fit}
 use Rattle.append.specs.Add.{added}
 use Rattle.append.proofs.Faults.{added-never}
 use Rattle.append.proofs.Grown.{add-appends}
-use Rattle.line.specs.Line.{lineRoom, restBy, lineOf}
-use Rattle.line.proofs.Short.{value-short, refusal-short}
+use Rattle.line.specs.Line.{lineRoom, lineOf}
 use Rattle.walk.specs.declared.Walk.{Walk}
-use Rattle.walk.specs.Parts.{Named}
-use Rattle.walk.specs.Walk.{begunBy, lineOfRecord, lineAt, nextLine, stepBy, stepped, walkAfter, stepOf}
+use Rattle.walk.specs.Walk.{begunBy, lineAt, nextLine, stepBy, stepped, walkAfter, stepOf}
 use Rattle.walk.specs.Laws.{printed, linesOf, steps}
-use Rattle.walk.proofs.Steps.{fit-named}
 use Rattle.walk.proofs.Covers.{walk-covers}
 use Rattle.walk.proofs.Later.{later-covers}
 use Rattle.c_laws.specs.Growing.{Got, gets, nextIn, Roomy, Given, FlatWalkCovers, FlatLaterCovers}
 use Rattle.c_laws.specs.Growing
+use Rattle.c_laws.proofs.Lines.{line-short, fit-short, record-short}
 use Rattle.c_laws.proofs.Rooms.{in-room}
-
--- ---- how long a line is
-rest-short : (n letter : ℕ) (l : Option Logs) (v : Option ℤ) → SizedFrom n letter l v → length (restBy n letter l v) ≤ 66
-rest-short n letter (some l) (some v) h =
-    let y : natAbs (l .y) ≤ 7000000 = abs-of 6999999 3000000 (l .y) (h .y .least) (h .y .most) 7000000 (lit≤ tt) (lit≤ tt) in
-    value-short letter (l .y) (l .z) v (omega arith) (omega (arith, h .z)) (omega (arith, h .value .value))
-rest-short n letter (some l) none h = refusal-short n (omega arith)
-rest-short n letter none v h = refusal-short n (omega arith)
-
--- the line of a state under any name
-pub line-short : (name : List ℕ) (kind first second : ℕ) → isLength (length name) ≡ true → length (lineOf (spelled name) (answerBy chosen kind first second)) ≤ lineRoom
-line-short name kind first second e =
-    let h = answerBy chosen kind first second in
-    omega (
-      arith,
-      length-append (spelled name) (restBy (h .number) (h .letter) (h .logs) (h .value)),
-      short name e,
-      rest-short (h .number) (h .letter) (h .logs) (h .value) (answer-sized kind first second),
-    )
-
-fit-short : (s : List ℕ) (r : Record) → Fit (layoutIn s) s r → length (lineOfRecord chosen s r) ≤ lineRoom
-fit-short s r f =
-    let n = fit-named s r f in
-    let e : length (nameIn s r) ≡ r .len = length-take-le (r .len) (drop (r .start) s) (omega (arith, length-drop (r .start) s, n .inside)) in
-    line-short (nameIn s r) (r .kind) (r .first) (r .second) (ap isLength e ∙ n .sized)
-
--- the line of each record of an accepted sheet
-pub record-short : (s : List ℕ) (rs : List Record) → sheetOf s ≡ records rs → (r : Record) → List·Memᴰ r rs → length (lineOfRecord chosen s r) ≤ lineRoom
-unfolding layoutIn
-record-short s rs e r m = fit-short s r (finds layoutOf s rs r e m .fit)
 
 -- ---- longer rooms give the same
 module _ (s : List ℕ) (rs : List Record) (reads : sheetOf s ≡ records rs) where

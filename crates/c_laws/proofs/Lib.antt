@@ -5,4 +5,5 @@ pub mod Allowed
 pub mod Demand3
 pub mod Rooms
 pub mod Growing
+pub mod Lines
 pub mod Covers

@@ -19,7 +19,7 @@ use Rattle.sheet_search.proofs.Pages.{pageOf, Reply, missed, found, replyOf, re
 use Rattle.sheet_search.proofs.Remarks.{remarks-page}
 use Rattle.sheet_remark.specs.Remark.{remarkOf, remarkBytes}
 use Rattle.sheet_walk.proofs.Pages.{same-record, numbered-inside}
-use Rattle.convert.proofs.Aside.{forward-aside}
+use Rattle.convert.proofs.Remarks.{forward-aside}
 use Rattle.calculator.specs.Search.{locate}
 use Rattle.calculator.proofs.Demand3.{locates}
 use Rattle.calculator.proofs.Located.{locate-inside}

@@ -4,4 +4,4 @@ pub mod Sheets
 pub mod Texts
 pub mod Laws
 pub mod Exactly
-pub mod Aside
+pub mod Remarks

@@ -1,5 +1,5 @@
 -- `airstate::eas_find` meets its contract by its two calls.
-use mathlib.Core.Path.{_≡_, sym, ap, subst, _∙_}
+use mathlib.Core.Path.{sym, ap, subst, _∙_}
 use Prim.Native.Nat.{_+_, _≤_}
 use lib.ListN.{length}
 use Rattle.calculator.proofs.Located.{locate-inside}

@@ -1,5 +1,5 @@
 -- `airstate::eas_record_at` meets its contract by its two calls.
-use mathlib.Core.Path.{_≡_, sym, ap, subst, _∙_}
+use mathlib.Core.Path.{sym, ap, subst, _∙_}
 use Prim.Native.Nat.{_+_, _≤_}
 use lib.ListN.{length}
 use Rattle.sheet_walk.proofs.Pages.{numbered-inside}

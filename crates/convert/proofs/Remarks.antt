@@ -8,7 +8,6 @@ use borrow.Author.Tests.{le-ltb}
 use lib.ListN.{length, length-append}
 use lib.Seq.{take-append-le}
 use Rattle.octets.specs.Bytes.{numberAt}
-use Rattle.octets.specs.Room.{Text}
 use Rattle.octets.specs.Room
 use Rattle.sheet_record.proofs.Local.{number-append}
 use Rattle.sheet_head.specs.Head.{isMarked}
