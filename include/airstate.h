@@ -169,8 +169,8 @@ typedef struct {
                            gas's temperature and an entropy have none */
 } eas_answer;
 
-/* A record of a sheet. Its name is the `length` bytes from `start` on, which lie in the sheet, not spelled. Refused: all
- * 0 but the number. */
+/* A record of a sheet. Its name is the `length` bytes from `start` on, which lie in the sheet, not spelled. Refused:
+ * all 0 but the number. */
 typedef struct {
     uint32_t number, kind;
     uint64_t first, second; /* in the units of the kind */
