@@ -153,7 +153,7 @@ def ends(temperature, entropy):
     spec = (CRATES / "bands" / "specs" / "Region.antt").read_text()
     code = (CRATES / "bands" / "src" / "lib.rt").read_text()
     for band, labels in TEMPERATURE.items():
-        want = [n // 10**4 for label in labels[:-1] for n in temperature[label, "END"]]
+        want = [pack.millionths(n) for label in labels[:-1] for n in temperature[label, "END"]]
         line = re.search(rf"^temperatureEnds {band.title()} = (.*)$", spec, re.M).group(1)
         same(f"specs, ends of {band}", [int(n) for n in re.findall(r"pos (\d+)", line)], want)
         call = re.search(rf"Band::{band.title()} => \w+\(z, ([^)]*)\)", code).group(1)
@@ -162,7 +162,7 @@ def ends(temperature, entropy):
     spec = (CRATES / crate / "specs" / file).read_text()
     code = (CRATES / crate / "src" / "lib.rt").read_text()
     for band, label in ENTROPY.items():
-        want = entropy.pop((label, "LIMIT"))[0] // 10**4
+        want = pack.millionths(entropy.pop((label, "LIMIT"))[0])
         same(f"specs, limit of {band}", int(re.search(rf"^entropyLimit {band.title()} = pos (\d+)$", spec, re.M).group(1)), want)
         same(f"src, limit of {band}", int(re.search(rf"Band::{band.title()} => (\d+),", code).group(1)), want)
 
@@ -224,7 +224,7 @@ def band(kind, function, name, labels, rows, lists):
     signs, kept = ([rows.pop((label, part), []) for label in labels] for part in ("SIGN", "KEPT"))
     constants = sum(len(lists[f"{kind} {name}", f"{piece}-A"]) == 1 for piece in names)
     band_pieces(crate, names, [*zip([(f"{kind} {name}", f"{piece}-B") in lists for piece in names], signs, kept)], constants)
-    ends = [n // 10**4 for label in labels[:-1] for n in rows.pop((label, "END"))]
+    ends = [pack.millionths(n) for label in labels[:-1] for n in rows.pop((label, "END"))]
     return band_ends(crate, function, names, ends, constants)
 
 
@@ -234,7 +234,7 @@ def gamma(pressure, lists):
     for name, labels in PRESSURE.items():
         constants[f"pressure {name}"] = {f"{name}1-A": band("pressure", "gamma", name, labels, pressure, lists)}
         (limit,) = pressure.pop((labels[-1], "LIMIT"))
-        crate, most = TABLES[f"pressure {name}"][0], str(limit // 10**4)
+        crate, most = TABLES[f"pressure {name}"][0], str(pack.millionths(limit))
         same(f"{crate}, specs: the limit", found(rf"^{name}Limit = pos (\d+)$", source(crate, "specs/Pieces.antt")), most)
         warns = found(rf"Band::{name.title()} => (\d+) < z,$", source("tgas1_gamma", "src/lib.rt"))
         same(f"tgas1_gamma, src: the limit of {name}", warns, most)

@@ -46,7 +46,7 @@ class Piece:
     notes: dict
 
     def end(self):
-        return pack.units(self.rows["END"][0]) // 10**4
+        return pack.millionths(pack.units(self.rows["END"][0]))
 
     def constant(self):
         return self.rows["GAMMA"][0] if "GAMMA" in self.rows else None
@@ -162,7 +162,7 @@ class Band:
         if limit:
             warning = f"""-- label {last.label}: a Z above this gets the listing's warning
 abbrev pub {band}Limit : ℤ
-{band}Limit = pos {pack.units(last.rows["LIMIT"][0]) // 10**4}
+{band}Limit = pos {pack.millionths(pack.units(last.rows["LIMIT"][0]))}
 
 """
         return f"""-- {self.what}'s pieces in the {band} band, {self.routine} of source document 000, labels {first.label} to {last.label}: {tells}.

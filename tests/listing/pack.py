@@ -32,6 +32,13 @@ def units(numeral, parts=1):
     return int(exact.quantize(Decimal(1), ROUND_HALF_UP))
 
 
+def millionths(number):
+    """units of 10^-10 in whole millionths, as an end or a limit must be"""
+    if number % 10**4:
+        raise ValueError(f"{number} units of 10^-10 are no whole millionths")
+    return number // 10**4
+
+
 def printed(file):
     """label and name of a statement, to its numerals in units"""
     rows = {}
