@@ -1,11 +1,11 @@
 -- `fit::weight_of` is the choice of weights for a transition, by its form.
 use mathlib.Core.Path.{sym, subst, ap, _∙_}
 use borrow.Author.Needs.{needs}
-use lib.Dec.{lit≤}
 use lib.IntN.{ℤ}
 use Rattle.integer.proofs.Machine.{back, back-ok}
 use Rattle.weight.specs.Choice.{weightBy, Served}
 use Rattle.fit.specs.declared.Form.{Form}
+use Rattle.fit.specs.declared.Form.the-variants.{Kept}
 use Rattle.fit.specs.Fit.{keptIn}
 use Rattle.fit.specs.Edge.{signOf, limitOf}
 use Rattle.fit.proofs.Kept.{same-kept}
@@ -51,7 +51,7 @@ returns-3 c =
     let s = c .before .before .before in
     back-ok (c .weight2 .result) (c .weight2 .ok)
     ∙ (rw (back (s .fits .q)) at (c .weight2 .ensures .0))
-    ∙ sym (same-kept 299999999999 (lit≤ tt) (s .args .q))
+    ∙ sym (same-kept (limitOf Kept) tt (s .args .q))
     ∙ ap (by (s .args .q)) (sym (c .before .enum-told3 .given .1))
 
 pub weight-of-spec : {M : Type 1} → statement M
