@@ -1,7 +1,7 @@
 """Prints the last section of docs/MUST-FAIL.md from the comments of the must-fail edits: a row an edit, under its crate in the
 order of crates.txt, with the wrong program and, behind `Breaks:`, the fact that it breaks. With --write the section is written,
-else it must be as printed. No edit has a line that rt passes over, no document names an edit that is not there, and a crate with
-many functions has few edits."""
+else it must be as printed. No edit has a line that rt passes over, each text that one replaces stands in its file once, no document
+names an edit that is not there, and a crate with many functions has few edits."""
 
 import re
 import sys
@@ -55,6 +55,22 @@ def section(edits):
     return "".join(parts)
 
 
+def misplaced():
+    """the edits with a text to replace that its file, as the edit has changed it so far, does not have once"""
+    for path in sorted((ROOT / "crates").glob("*/must-fail/*.edit")):
+        texts, file, old = {}, None, None
+        for word, text in re.findall(r"^(file|old|new): ?(.*)$", path.read_text(), re.M):
+            if word == "file":
+                file = path.parent.parent / text
+                texts.setdefault(file, file.read_text())
+            elif word == "old":
+                old = text
+            elif (count := texts[file].count(old)) == 1:
+                texts[file] = texts[file].replace(old, text)
+            else:
+                yield f"{path.parts[-3]}/{path.stem}: the text that it replaces stands {count} times: {old}"
+
+
 def unknown(edits, upper):
     """what the page above the section and the checklist name as edits, and is none"""
     named = r"(?<![\w/.])([a-z][a-z0-9_]*)/([a-z0-9_]+)(?![\w/])"
@@ -81,7 +97,7 @@ def main(*words):
     upper = PAGE.read_text().split(TITLE)[0]
     if words:
         PAGE.write_text(upper + section(edits))
-    faults = unknown(edits, upper) + over_budget(edits)
+    faults = [*misplaced(), *unknown(edits, upper), *over_budget(edits)]
     if PAGE.read_text() != upper + section(edits):
         faults.append("docs/MUST-FAIL.md is not as printed: python3 tests/must_fail_rows.py --write")
     if faults:

@@ -104,7 +104,7 @@ pub extern "C" fn eas_line(sheet: &[u8], spelled: &[u8], out: &mut [u8]) -> CTex
     flat_parts::flatten_text(report::line(sheet, spelled, out))
 }
 
-// The whole listing of spelled names, one a line, in lent room.
+// The whole listing of spelled names, one a line, in lent room. How much room is enough is `ListingFits` (c_laws/specs/Texts).
 #[no_mangle]
 pub extern "C" fn eas_list(sheet: &[u8], names: &[u8], out: &mut [u8]) -> CText
     ensures { λ r. ⌜ r ≡ flatText (outcomeOf (listingIn (length (now (out .entry))) (now (sheet .entry)) (now (names .entry)))) ⌝ }

@@ -1,9 +1,9 @@
--- A line takes at most `lineRoom` bytes: of a record, and of any search.
+-- A line takes at most `lineRoom` bytes: of a record, and of any search; and a listing as many for each name.
 use mathlib.Core.Bool.{Bool, true, false, cond, not, _||_}
 use mathlib.Core.List.{List, [], _∷_, _++_, List·Memᴰ}
 use mathlib.Core.Option.{Option, none, some}
 use mathlib.Core.Path.{_≡_, refl, ap, _∙_}
-use Prim.Native.Nat.{ℕ, zero, suc, _+_, _≤_}
+use Prim.Native.Nat.{ℕ, zero, suc, _+_, _*_, _≤_}
 use native.Mathlib.Nat.{le-trans}
 use native.Mathlib.Omega.{arith}
 use lib.Dec.{eqb, ltb, lit≤}
@@ -35,13 +35,16 @@ use Rattle.sheet_search.specs.Find.{findIn}
 use Rattle.sheet_search.proofs.Locate.{Fit, finds}
 use Rattle.sheet_search.proofs.Searching.{Finding, hit, miss, finding}
 use Rattle.calculator.specs.Search.{locateName, locateIn, locate, answerAt, searchBy}
-use Rattle.line.specs.Line.{lineRoom, shownName, restBy, lineOf, line}
+use Rattle.line.specs.Line.{lineRoom, shownName, refusalRest, restBy, lineOf, line}
 use Rattle.line.proofs.Names.{shown-short}
 use Rattle.line.proofs.Short.{value-short, refusal-short}
 use Rattle.walk.specs.Parts.{Named}
 use Rattle.walk.specs.Walk.{lineOfRecord}
 use Rattle.walk.proofs.Steps.{fit-named}
-use Rattle.c_laws.specs.Texts.{LineFits}
+use Rattle.name_list.specs.Lines.{linesOf}
+use Rattle.report_refusal.specs.Refusal.{sheetWord, listWord, listingFor}
+use Rattle.report.specs.Listing.{linesBy, listingBy}
+use Rattle.c_laws.specs.Texts.{LineFits, ListingFits}
 
 -- ---- what follows the name
 rest-short : (n letter : ℕ) (l : Option Logs) (v : Option ℤ) → SizedFrom n letter l v → length (restBy n letter l v) ≤ 66
@@ -155,15 +158,38 @@ search-sized s spelling = go (locate s spelling) (located-few s spelling)
     go (Miss n) h = le-trans h (lit≤ tt)
     go (Hit r) h = answer-sized (r .kind) (r .first) (r .second)
 
-pub line-fits : LineFits
+search-short : (s spelling : List ℕ) → length (line spelling (searchBy chosen s spelling)) ≤ lineRoom
 unfolding line
-line-fits s spelling room h =
+search-short s spelling =
     let x : Held = searchBy chosen s spelling in
-    fits room (line spelling x)
-    (omega (
+    omega (
       arith,
-      h,
       length-append (shownName (nameOf spelling)) (restBy (x .number) (x .letter) (x .logs) (x .value)),
       shown-short spelling,
       rest-short (x .number) (x .letter) (x .logs) (x .value) (search-sized s spelling),
-    ))
+    )
+
+pub line-fits : LineFits
+line-fits s spelling room h = fits room (line spelling (searchBy chosen s spelling)) (le-trans (search-short s spelling) h)
+
+-- ---- a listing
+lines-short : (s : List ℕ) (names : List (List ℕ)) → length (linesBy chosen s names) ≤ length names * lineRoom
+unfolding linesBy
+lines-short s [] = omega arith
+lines-short s (n ∷ names) =
+    omega (arith, length-append (line n (searchBy chosen s n)) (linesBy chosen s names), search-short s n, lines-short s names)
+
+-- the line of a refused sheet or list
+word-short : (word : List ℕ) (n : ℕ) → length word ≤ 5 → n ≤ 16 → length (word ++ refusalRest n) ≤ lineRoom
+word-short word n h k = omega (arith, length-append word (refusalRest n), refusal-short n (omega (arith, k)), h)
+
+pub listing-fits : ListingFits
+unfolding listingBy
+listing-fits s names room one all =
+    fits room (listingFor (numberOf (sheetOf s)) names (linesBy chosen s (linesOf names)))
+    (go (eqb (numberOf (sheetOf s)) 0) (ltb 65536 (length names)))
+  where
+    go : (a b : Bool) → length (cond a (cond b (listWord ++ refusalRest 15) (linesBy chosen s (linesOf names))) (sheetWord ++ refusalRest (numberOf (sheetOf s)))) ≤ room
+    go true true = le-trans (word-short listWord 15 (lit≤ tt) (lit≤ tt)) one
+    go true false = le-trans (lines-short s (linesOf names)) all
+    go false b = le-trans (word-short sheetWord (numberOf (sheetOf s)) (lit≤ tt) (sheet-few s)) one
