@@ -39,7 +39,7 @@ SHARED = $(BUILD)/libairstate.so.$(VERSION)
 CRATES = crates.txt $(shell find crates -name '*.rt' -o -name '*.antt')
 
 HOST = $(MAKE) -C host LIB=$(abspath $(STATIC)) BUILD=$(abspath $(BUILD)) LISTING=$(abspath $(LISTING)) \
-	VECTORS=$(abspath $(VECTORS))
+	VECTORS=$(abspath $(VECTORS)) SHARED=$(abspath $(SHARED))
 
 .PHONY: all tools run install uninstall test dist clean
 
