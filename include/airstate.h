@@ -26,6 +26,9 @@
  * there. An entropy and a pressure are joined at every z, a temperature where its z is above 250,000; up to that the
  * gas is perfect. At both ends a pressure takes that end's gamma with the state's own density and energy.
  *
+ * How near an answer is said to be to its fit is not how near it is to air: for that see docs/AIR.md, by which a
+ * temperature may be some 2 % off and steps by about 1 % where its perfect gas ends.
+ *
  * A byte sequence is a pointer and a length; a null pointer is allowed where the length is 0. A buffer that is lent for
  * writing overlaps no other argument. A refusal changes no byte of it; a success writes a prefix.
  *
