@@ -103,6 +103,33 @@ printf 'name,pressure_Pa,density_kg_m3\nwarm,36000,0.41\ncold,24000,0.405\n' | "
 "$plot" "$work/cold.eas" "$work/cold.svg"
 expect "no strip among perfect gases alone" shades "$work/cold.svg" 2
 
+# Steps of the fits: marked between neighbours of the sheet, and told in the legend.
+# stepped NAME LINE...: draws a sheet of these states.
+stepped() {
+    name=$1
+    shift
+    { echo name,kind,first,density; printf '%s\n' "$@"; } | "$tool" pack > "$work/$name.eas" &&
+        "$plot" "$work/$name.eas" "$work/$name.svg"
+}
+# links FILE.svg COUNT: how many lines mark a step, the one in the legend among them.
+links() {
+    test "$(grep -c 'polyline .*stroke="#8f45ad"' "$1")" -eq "$2"
+}
+below=a,1,18000000000,12920000000 above=b,1,18040000000,12920000000
+expect "neighbours on both sides of the perfect gas's end are drawn" stepped one "$below" "$above"
+expect "their step is marked" links "$work/one.svg" 2
+expect "and the legend says how large it is" shows "$work/one.svg" "temperature between neighbours: 1, -1.05 %"
+expect "steps across the curve" sh -c "grep -q '>temperature steps across it: -1.[0-9]* to -0.[0-9]* %<' '$work/one.svg'"
+expect "two steps" stepped two "$below" "$above" c,1,89900000000,12920000000 d,1,91000000000,12920000000
+expect "both are told" shows "$work/two.svg" "temperature between neighbours: 2, -1.05 to +0.71 %"
+expect "both are marked" links "$work/two.svg" 3
+expect "neighbours within a piece are drawn" stepped within "$above" c,1,18080000000,12920000000
+expect "no step is marked there" links "$work/within.svg" 0
+expect "states that are far apart are drawn" stepped far "$below" c,1,40000000000,12920000000
+expect "and are no neighbours" links "$work/far.svg" 0
+expect "steps of pressures" sh -c "grep -q '>pressure between neighbours: [0-9]*, -0.[0-9]* to +1.[0-9]* %<' '$pressures'"
+expect "steps of entropies" sh -c "grep -q '>entropy steps across it: -2.[0-9]* to +1.[0-9]* %<' '$work/shock-tunnel.svg'"
+
 # The stored pictures, each drawn by "plot samples/NAME.eas", have the marks of today; where labels stand depends on the
 # fonts.
 marks() {

@@ -69,6 +69,7 @@ static void gather(chart *c, const uint8_t *sheet, size_t n) {
         show_remark(it);
         it->mark = eas_plot(sheet, n, (const uint8_t *)it->s.spelled, it->s.spelled_length);
         eas_answer a = search_state(sheet, n, &it->s);
+        it->z = MILLIONTHS((double)a.z);
         it->fitted = a.letter == 'S' || a.carries & EAS_CARRIES_LOW;
         it->joined = a.letter == 'S' ? inside_strip(a.y, &middle, &half) : a.carries & EAS_CARRIES_HIGH;
         c->blanks += it->mark.blank != 0;
@@ -90,11 +91,14 @@ static bool has_shape(const chart *c, const panel *p, const item *shape) {
     return false;
 }
 
-/* A line for each shape of each panel, two for the curves and one for remarks. */
+/* A line for each shape of each panel, two for the curves, one for their steps and for those between neighbours of each
+ * panel that has any, and one for remarks. */
 static int legend_lines(const chart *c) {
     int lines = c->remarks > 0 ? 3 : 2;
     for (unsigned i = 0; i < c->panel_count * SHAPES; i++)
         lines += has_shape(c, &c->panels[i / SHAPES], &shapes[i % SHAPES]);
+    for (unsigned i = 0; i < c->panel_count; i++)
+        lines += (curve_steps(c, &c->panels[i]).count > 0) + (mark_steps(NULL, c, &c->panels[i]).count > 0);
     return lines;
 }
 
@@ -114,7 +118,6 @@ static void lay_out_panels(chart *c) {
         c->panels[i].bottom = c->panels[i].top + height;
         c->plot_bottom = c->panels[i].bottom + 64;
     }
-    c->list_top = fmax(LIST_TOP, TITLE + LEGEND_PITCH * legend_lines(c) - 2);
 }
 
 /* A line of the legend; returns the next one's height. */
@@ -138,6 +141,33 @@ static double draw_shapes(figure *f, const chart *c, const panel *p, double y) {
     return y;
 }
 
+/* Steps in words: one, or the least and the largest. */
+static const char *steps_text(const steps *s) {
+    static char text[48];
+    if (s->count == 1)
+        snprintf(text, sizeof text, "%+.2f %%", s->least);
+    else
+        snprintf(text, sizeof text, "%+.2f to %+.2f %%", s->least, s->most);
+    return text;
+}
+
+/* How large the steps of a panel are, across its curves and between neighbours; returns the next line's height. */
+static double draw_steps(figure *f, const chart *c, const panel *p, double y) {
+    const steps across = curve_steps(c, p), marked = mark_steps(NULL, c, p);
+    const char *name = p->kind->wanted->name;
+    char text[128];
+    if (across.count > 0) {
+        snprintf(text, sizeof text, "%s steps across it: %s", name, steps_text(&across));
+        y = legend(f, y, NULL, grey, text);
+    }
+    if (marked.count > 0) {
+        snprintf(text, sizeof text, "%s between neighbours: %u, %s", name, marked.count, steps_text(&marked));
+        draw_line(f, LIST_LEFT - 2, y - 4, LIST_LEFT + 18, y - 4, (pen){step_ink, 3, false});
+        y = legend(f, y, NULL, grey, text);
+    }
+    return y;
+}
+
 /* The lines for the curves say what Z is; pressures and remarks are spoken of where there are any. */
 static void draw_legend(figure *f, const chart *c, double y) {
     bool has_pressures = false;
@@ -150,6 +180,8 @@ static void draw_legend(figure *f, const chart *c, double y) {
     y = legend(f, y, NULL, grey,
                has_pressures ? "log10 of p/p₀ over ρ/ρ₀, for entropy and pressure of e/e₀"
                              : "log10 of p/p₀ over ρ/ρ₀, for entropy of e/e₀");
+    for (unsigned i = 0; i < c->panel_count; i++)
+        y = draw_steps(f, c, &c->panels[i], y);
     if (c->remarks == 0)
         return;
     f->text(f, (point){LIST_LEFT - 2, y}, (lettering){REMARK_SIZE, grey, 0, false, false}, "abc");
@@ -182,6 +214,7 @@ static int draw(chart *c, const char *path) {
         draw_panel(f, c, &c->panels[i]);
         place_marks(c, &c->panels[i]);
         label_curves(f, c, &c->panels[i]);
+        mark_steps(f, c, &c->panels[i]);
         draw_marks(f, c, &c->panels[i]);
     }
     if (c->panel_count == 0)
@@ -224,6 +257,7 @@ int main(int argc, char **argv) {
     gather(&c, sheet, n);
     lay_out_panels(&c);
     fit_axes(&c);
+    c.list_top = fmax(LIST_TOP, TITLE + LEGEND_PITCH * legend_lines(&c) - 2);
     lay_out_list(&c);
     for (int i = at + 1; i < argc; i++)
         failed |= draw(&c, argv[i]);

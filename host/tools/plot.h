@@ -22,6 +22,7 @@ typedef struct {
     char name[SHOWN_ROOM]; /* as text, or spelled where it is none */
     char remark[REMARK_SHOWN_ROOM];
     eas_mark mark;
+    double z;
     bool fitted, joined;
     point place;
 } item;
@@ -38,6 +39,12 @@ typedef struct {
     double top, bottom;
     colour ink;
 } panel;
+
+/* Steps of the fits, in percent; both are 0 where there are none. */
+typedef struct {
+    unsigned count;
+    double least, most;
+} steps;
 
 typedef struct {
     const char *title;
@@ -62,6 +69,9 @@ enum {
     REMARK_SIZE = 9 /* of letters */
 };
 
+/* At most so many curves of constant Z go through a band. */
+enum { CURVES_MOST = 8 };
+
 extern const colour black, dark, grey, light;
 
 /* A state's place on the axes. */
@@ -79,6 +89,17 @@ void fit_axes(chart *c);
 void draw_ruler(figure *f, const chart *c, double top);
 void draw_panel(figure *f, const chart *c, const panel *p);
 void label_curves(figure *f, const chart *c, const panel *p);
+
+/* The library's value at (y, z) in its SI unit, or 0 where it is refused. */
+double value_at(const panel *p, double y, double z);
+
+/* The Z at which one piece of a band, or its perfect gas, ends and the next begins; returns how many. */
+int step_ends(const panel *p, int band, int32_t ends[CURVES_MOST]);
+
+/* plot_steps.c: steps of the fits, between neighbours of the sheet and across the curves. */
+extern const colour step_ink;
+steps mark_steps(figure *f, const chart *c, const panel *p);
+steps curve_steps(const chart *c, const panel *p);
 
 /* plot_marks.c: what no label may cover is kept clear; marks have names where all find room, else numbers. */
 void clear_page(void);

@@ -5,7 +5,7 @@
 #include "limits.h"
 #include "plot.h"
 
-enum { CURVE_STEPS = 240, CURVES_MOST = 8, RULER_HEIGHT = 14 };
+enum { CURVE_STEPS = 240, RULER_HEIGHT = 14 };
 
 /* A strip is drawn at least this wide, so that it is seen. */
 static const double STRIP_LEAST = 8;
@@ -171,8 +171,7 @@ static bool is_visible(const chart *c, double across) {
     return across > c->across.low && across < c->across.high;
 }
 
-/* The library's value at (y, z) in its SI unit, or 0 where it is refused. */
-static double value_at(const panel *p, double y, double z) {
+double value_at(const panel *p, double y, double z) {
     double standard =
         p->kind->letter == 'T' ? (double)STANDARD_PRESSURE * pow(10, y + z) : (double)STANDARD_ENERGY * pow(10, z);
     eas_answer a = eas_evaluate(p->kind->kind, (uint64_t)llround(standard),
@@ -257,20 +256,30 @@ static void follow_curve(figure *f, const chart *c, const panel *p, int band, do
     use(f, p, points, n, z);
 }
 
-/* The Z at which a piece of a band, its perfect gas or its fits as a whole end; returns how many. */
-static int curve_ends(const panel *p, int band, int32_t ends[CURVES_MOST]) {
+/* The largest Z of a band's fits. */
+static int32_t limit_of(const panel *p, int band) {
+    return p->kind->letter == 'T' ? MOST_Z : p->kind->letter == 'S' ? entropy_most_z[band] : pressure_most_z(band);
+}
+
+int step_ends(const panel *p, int band, int32_t ends[CURVES_MOST]) {
     const int32_t *pieces = p->kind->letter == 'T' ? piece_end[band] : pressure_end[band];
     int n = 0;
     if (p->kind->letter == 'S') {
         ends[n++] = PERFECT_ENTROPY_Z;
-        ends[n++] = entropy_most_z[band];
         return n;
     }
     if (p->kind->letter == 'T')
         ends[n++] = PERFECT_Z;
-    for (int i = 0; i < (p->kind->letter == 'T' ? PIECE_ENDS : PRESSURE_ENDS); i++)
-        if ((i == 0 || pieces[i] > pieces[i - 1]) && (p->kind->letter != 'T' || pieces[i] < MOST_Z))
-            ends[n++] = pieces[i];
+    for (int i = 0; pieces[i] < limit_of(p, band); i++)
+        ends[n++] = pieces[i];
+    return n;
+}
+
+/* The same with the limit, but for a temperature, whose window is not a curve. */
+static int curve_ends(const panel *p, int band, int32_t ends[CURVES_MOST]) {
+    int n = step_ends(p, band, ends);
+    if (p->kind->letter != 'T')
+        ends[n++] = limit_of(p, band);
     return n;
 }
 
