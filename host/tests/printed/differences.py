@@ -1,4 +1,4 @@
-"""How far the library is from other authors' air, and how far its own pieces are apart where they meet: the figures of docs/AIR.md."""
+"""How far the library is from other authors' air, and its pieces from each other where they meet: the figures of docs/AIR.md."""
 
 import math
 from pathlib import Path

@@ -1,7 +1,5 @@
 """Source document 000: the values at its juncture points, tables 10 to 12, and how its exponents were made, equations 18 to 21."""
 
-import math
-
 from library import DENSITY, ENERGY, FIT, PRESSURE, TEMPERATURE
 from listing import BANDS, D0, E0, P0, R, T0, Listing, band_of, sound_speed
 from other_air import rows
@@ -14,6 +12,7 @@ ENDS[11] = ENDS[10]
 NEAR = {10: 0.0012, 11: 0.0018, 12: 0.001}  # how far from the juncture a piece gives a marked figure, at most
 STEP = 0.001  # of the differences that gamma's slopes are taken by
 LISTED_SLOPE = -2 * 9.50240e-05  # label 100's slip, of Y Z
+OTHERS = (160, 190)  # no term of the density; made for a piece that begins at Z = 2.90, where the listing's begins at 2.95
 
 
 def last_place(figure):
@@ -97,7 +96,8 @@ def compare_cell(tally, library, table, cell):
     if mark:
         count = round(NEAR[table] / 1e-5)
         at = [of_piece(table, piece, y, z + i * 1e-5) for i in range(-count, count + 1)]
-        tally.check(explained(mark, figure, at, of_piece(table, piece, y, z, LISTED_SLOPE)), f"{name}: {figure}{mark} is not explained")
+        slipped = of_piece(table, piece, y, z, LISTED_SLOPE)
+        tally.check(explained(mark, figure, at, slipped), f"{name}: {figure}{mark} is not explained")
     return same, value / float(figure) - 1
 
 
@@ -109,24 +109,25 @@ def compare_tables(tally, library, listing):
                 wanted = 2 * len(ENDS[table][band_of(int(row[1]))])
                 tally.check(len(row) - 2 == wanted, f"000 table {table}, 10^{row[1]}: {len(row) - 2} cells")
                 found += [compare_cell(tally, library, table, cell) for cell in cells(row, listing)]
-        worst = max(abs(off) for _, off in found)
-        tally.tell(f"000 table {table}: {len(found)} cells, {sum(same for same, _ in found)} to the last digit, the farthest {100 * worst:.2f} %")
+        same, worst = sum(same for same, _ in found), 100 * max(abs(off) for _, off in found)
+        tally.tell(f"000 table {table}: {len(found)} cells, {same} to the last digit, the farthest {worst:.2f} %")
 
 
 def compare_corners(tally, listing):
-    """an exponent is 25 away from 0 where its piece begins at the least density; all but two labels"""
-    others = []
-    for fit, bands in listing.pieces.items():
-        for band, pieces in bands.items():
-            for before, piece in zip(pieces, pieces[1:]):
-                if piece.exponents:
-                    others += [piece.label] if abs(abs(piece.exponent(BANDS[band][0], before.end)) - 25) > 0.001 else []
-                    tally.check(math.isfinite(before.end), f"label {before.label} has no end")
-    # 160 has no term of the density, and 190 was made for a piece that begins at Z = 2.90, where the listing's begins at 2.95
-    tally.check(others == [160, 190], f"exponents that equations 18 to 21 do not give: labels {others}")
-    last = listing.pieces["gamma"]["middle"][-1]
-    tally.check(abs(last.exponent(-4.5, 2.90) - 25) < 0.001, "label 190's exponent at Z = 2.90")
-    tally.check(listing.pieces["gamma"]["middle"][1].exponents[1::2] == [0, 0], "label 160's exponent has a term of the density")
+    """an exponent is 25 away from 0 where its piece begins at the least density of its band, but at two labels"""
+    made = [
+        (piece.label, piece.exponent(BANDS[band][0], before.end))
+        for bands in listing.pieces.values()
+        for band, pieces in bands.items()
+        for before, piece in zip(pieces, pieces[1:])
+        if piece.exponents
+    ]
+    tally.check(len(made) == 18, f"{len(made)} exponents")
+    for label, exponent in made:
+        tally.check((abs(abs(exponent) - 25) < 0.001) == (label not in OTHERS), f"label {label}: its exponent begins with {exponent}")
+    _, without_density, *_, early = listing.pieces["gamma"]["middle"]
+    tally.check(without_density.exponents[1::2] == [0, 0], "label 160's exponent has a term of the density")
+    tally.check(abs(early.exponent(-4.5, 2.90) - 25) < 0.001, "label 190's exponent at Z = 2.90")
 
 
 def compare(tally, library):

@@ -60,8 +60,16 @@ def mark_steps(drawing, panel, found, labelled):
             drawing.text(x + 5, panel.up.end + 14, f"step of {percent:+.2f} % at {temperature:,.0f} K", 11, STEP)
 
 
-def legend(drawing, x, y, entries):
-    for i, (ink, words, dashes) in enumerate(entries):
+LEGEND = [
+    (OURS, "airstate", ""),
+    (PERFECT, "thermally perfect air (source document 002), to 1,800 K", ""),
+    (EMPIRICAL, "the air of source document 003, from 2,000 K", ""),
+    (STEP, "where a piece of the report's fit ends", "5,3"),
+]
+
+
+def legend(drawing, x, y):
+    for i, (ink, words, dashes) in enumerate(LEGEND):
         drawing.line([(x, y + 18 * i - 4), (x + 26, y + 18 * i - 4)], ink, 2, dashes)
         drawing.text(x + 34, y + 18 * i, words, 12)
 
@@ -80,10 +88,8 @@ def draw_isochore(library):
     upper.curve(hot, EMPIRICAL, 5)
     for branch in ours:
         upper.curve(branch, OURS, 1.5)
-    entries = [(OURS, "airstate", ""), (PERFECT, "thermally perfect air (source document 002), to 1,800 K", "")]
-    entries += [(EMPIRICAL, "the air of source document 003, from 2,000 K", ""), (STEP, "where a piece of the report's fit ends", "5,3")]
     drawing.box(460, 332, 400, 78, "#ffffff")
-    legend(drawing, 470, 350, entries)
+    legend(drawing, 470, 350)
     draw_percents(drawing, library, across, density, (warm, hot), found)
     return drawing.svg()
 
@@ -118,7 +124,7 @@ def draw_plane(library):
         panel = Panel(drawing, Axis(1750, 15250, left, left + 400), Axis(-1.05, 1.05, top + 210, top))
         for (x, t), percents in found.items():
             drawing.box(panel.across.at(t - 250), panel.up.at(x + 0.05), 400 / 27 + 0.3, 10.3, colour(percents[name]))
-        panel.grid(range(3000, 15001, 3000), (-1, 0, 1), lambda t: f"{t:,} K", lambda x: {-1: "0.1 atm", 0: "1 atm", 1: "10 atm"}[x])
+        panel.grid(range(3000, 15001, 3000), (-1, 0, 1), lambda t: f"{t:,} K", lambda x: f"{10.0**x:g} atm")
         drawing.text(left, top - 8, words.replace("density, by the library's own pressure", "density, by its own pressure"), 12)
     draw_colours(drawing, 60, 650)
     return drawing.svg()

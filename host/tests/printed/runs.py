@@ -39,8 +39,8 @@ def compare_rounded(tally, library, row):
     place, density, energy, pressure, temperature, gamma, *tenth = row
     density, energy = float(density), float(energy)
     ours = library.pressure(energy, density)
-    figures = {pressure: ours / 10 if tenth else ours, temperature: library.temperature(ours, density), gamma: library.gamma(energy, density)}
-    for figure, value in figures.items():
+    values = ours / 10 if tenth else ours, library.temperature(ours, density), library.gamma(energy, density)
+    for figure, value in zip((pressure, temperature, gamma), values):
         tally.check(abs(value - float(figure)) < last_place(figure), f"004 {place}: {value}, printed {figure}")
 
 
