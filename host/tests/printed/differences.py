@@ -73,7 +73,8 @@ def step_percents(library, kind, end_of):
 
 
 def signed(number):
-    return f"{number:+.2f}"
+    text = f"{number:+.2f}"
+    return text if float(text) else "0.00"
 
 
 def row(*cells):
