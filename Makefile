@@ -1,6 +1,7 @@
 # The library for C programs, its tools and the listing program.
 #
-#   make                             both libraries, the listing program and the tools
+#   make packages                    installs the Debian packages that the build and its tests need
+#   make                             both libraries, the listing program and the tools; V=1 shows whole commands
 #   make run                         proves and builds the listing program and runs it on the sample sheet
 #   make test                        builds and runs everything under host/, with the listing program, the weights of the
 #                                    program vectors, an installation and an unpacked release; a check that is left out
@@ -8,7 +9,7 @@
 #   make install PREFIX=/usr/local   header, libraries, pkg-config file, programs, man pages and documents; DESTDIR is
 #                                    put in front
 #   make dist                        target/host/airstate-VERSION-MACHINE.tar.gz with all that is installed, for hosts
-#                                    that have no prover
+#                                    that have no prover; neither is made where a tool could not be built
 #
 # rt, the Rattle kit's command, is needed unless STATIC and LISTING name what it built elsewhere. For make test VECTORS
 # does so too; where it names nothing the weights are left out.
@@ -24,6 +25,7 @@ DATADIR ?= $(PREFIX)/share/airstate
 LIBS ?=
 BUILD ?= target/host
 STRICT ?= 1
+V ?=
 
 VERSION := $(shell sed -n 's/^\#define EAS_VERSION "\(.*\)"/\1/p' include/airstate.h)
 MAJOR := $(firstword $(subst ., ,$(VERSION)))
@@ -41,9 +43,12 @@ CRATES = crates.txt $(shell find crates -name '*.rt' -o -name '*.antt')
 HOST = $(MAKE) -C host LIB=$(abspath $(STATIC)) BUILD=$(abspath $(BUILD)) LISTING=$(abspath $(LISTING)) \
 	VECTORS=$(abspath $(VECTORS)) SHARED=$(abspath $(SHARED))
 
-.PHONY: all tools run install uninstall test dist clean
+.PHONY: all packages tools run install uninstall test dist clean
 
 all: $(STATIC) $(SHARED) $(LISTING) tools
+
+packages:
+	@host/packages.sh
 
 # Each is written after all crates below it are proved, again where one of their files is newer.
 $(PROVED_STATIC): $(CRATES)
@@ -62,7 +67,7 @@ $(PROVED_VECTORS): $(CRATES) | $(STATIC) $(LISTING)
 # Only the header's entries are visible in the shared library.
 $(SHARED): $(STATIC) host/airstate.map
 	@mkdir -p $(@D)
-	$(CC) -shared $(LDFLAGS) -Wl,-soname,libairstate.so.$(MAJOR) -Wl,--version-script=host/airstate.map -Wl,-z,defs \
+	$(if $(filter-out 0, $(V)),,@echo 'LD $(@F)'; )$(CC) -shared $(LDFLAGS) -Wl,-soname,libairstate.so.$(MAJOR) -Wl,--version-script=host/airstate.map -Wl,-z,defs \
 		-Wl,--whole-archive $(STATIC) -Wl,--no-whole-archive $(LIBS) -o $@
 
 tools: $(STATIC)
@@ -80,6 +85,7 @@ MAN3 = $(wildcard man/*.3)
 DOCUMENTS = $(wildcard README.md CHANGELOG.md crates/README.md host/README.md docs/*.md docs/*.svg docs/landings/*.md)
 
 install: all
+	+@$(HOST) every-tool
 	install -d $(addprefix $(DESTDIR), $(BINDIR) $(INCLUDEDIR) $(LIBDIR)/pkgconfig $(MANDIR)/man1 $(MANDIR)/man3 \
 		$(DOCDIR)/examples $(DATADIR)/samples)
 	install -m 644 include/airstate.h $(DESTDIR)$(INCLUDEDIR)/airstate.h
@@ -109,7 +115,7 @@ uninstall:
 RELEASE = airstate-$(VERSION)-$(shell uname -m)
 
 dist:
-	rm -rf $(BUILD)/$(RELEASE)
+	rm -rf $(BUILD)/$(RELEASE) $(BUILD)/$(RELEASE).tar.gz
 	$(MAKE) install DESTDIR=$(abspath $(BUILD))/$(RELEASE) PREFIX= PC_PREFIX='$$$${pcfiledir}/../..'
 	tar -C $(BUILD) --owner=0 --group=0 --sort=name -czf $(BUILD)/$(RELEASE).tar.gz $(RELEASE)
 	@echo $(BUILD)/$(RELEASE).tar.gz
@@ -118,6 +124,7 @@ test: all $(VECTORS)
 	+$(HOST) test STRICT=$(STRICT)
 	STRICT=$(STRICT) host/tests/install_test.sh $(abspath $(STATIC)) $(abspath $(LISTING)) $(abspath $(BUILD))
 	STRICT=$(STRICT) host/tests/man_test.sh
+	STRICT=$(STRICT) host/tests/build_test.sh $(abspath $(STATIC)) $(abspath $(LISTING))
 
 clean:
 	rm -rf $(BUILD)

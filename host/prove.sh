@@ -23,14 +23,15 @@ cd "$root" || exit 2
             }
         level_of[n] = level
         visited[++total] = n
+        if (length(n) > widest) widest = length(n)
         if (level > highest) highest = level
     }
     function announce() {
-        if (done < total) printf "%2d of %d  %-16s", done + 1, total, plan[done + 1]
+        if (done < total) printf row, done + 1, total, plan[done + 1]
         fflush()
     }
     function finished(name, words) {
-        if (plan[done + 1] != name) printf "\n%2d of %d  %-16s", done + 1, total, name
+        if (plan[done + 1] != name) printf "\n" row, done + 1, total, name
         print words
         done++
         announce()
@@ -50,6 +51,7 @@ cd "$root" || exit 2
         for (level = 0; level <= highest; level++)
             for (i = 1; i <= total; i++)
                 if (level_of[visited[i]] == level) plan[++planned] = visited[i]
+        row = "%2d of %d  %-" widest "s  "
         print "proving " total " crates; unchanged ones are not proved again"
         announce()
     }
