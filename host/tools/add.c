@@ -46,7 +46,7 @@ int add(const char *input, const char *output, const state_words *typed) {
         return refuse("%s: refusal %u: %s: '%s'", headings[KIND], EAS_KIND_UNKNOWN, eas_reason(EAS_KIND_UNKNOWN),
                       shown(field_of(typed->kind)));
     if (!read_value(typed->first, kind->first, &first) || !read_value(typed->density, kind->second, &density) ||
-        load_sheet(input, sheet, &n))
+        load_to_change(input, output, sheet, &n))
         return REFUSED;
     eas_text text = eas_add(sheet, n, (const uint8_t *)typed->name, strlen(typed->name), kind->kind, first, density,
                             grown, sizeof grown);

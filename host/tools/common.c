@@ -6,7 +6,7 @@
 
 #include "options.h"
 
-static int is_standard(const char *path) {
+bool is_standard(const char *path) {
     return !path || !strcmp(path, "-");
 }
 
@@ -27,30 +27,6 @@ FILE *open_input(const char *path) {
     if (!file)
         refuse_file(path);
     return file;
-}
-
-FILE *open_output(const char *path) {
-    FILE *file = is_standard(path) ? stdout : fopen(path, "wb");
-    if (!file)
-        refuse_file(path);
-    return file;
-}
-
-int close_output(FILE *file, const char *path) {
-    bool lost = ferror(file) || fflush(file) != 0;
-    if (lost)
-        refuse_file(output_name(path));
-    if (file != stdout && fclose(file) != 0 && !lost)
-        return refuse_file(path);
-    return lost ? REFUSED : DONE;
-}
-
-int write_output(const char *path, const void *bytes, size_t n) {
-    FILE *file = open_output(path);
-    if (!file)
-        return REFUSED;
-    fwrite(bytes, 1, n, file);
-    return close_output(file, path);
 }
 
 int load_bytes(const char *path, uint8_t sheet[SHEET_MOST + 1], size_t *n) {

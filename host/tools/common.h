@@ -1,18 +1,24 @@
 /* What the tools share with files: a sheet read and checked, an input opened, an output written, with a message on
- * every failure. A path of "-", or none, is standard input or output. */
+ * every failure. A path of "-", or none, is standard input or output. A file that is written has its old bytes until it
+ * has all of the new ones. */
 #ifndef COMMON_H
 #define COMMON_H
 
+#include <stdbool.h>
 #include <stdint.h>
 #include <stdio.h>
 
 #include "record.h"
 
-/* Opens an input, or an output, which is empty then; tells a failure and gives null. */
+/* Whether a path is that of standard input or output. */
+bool is_standard(const char *path);
+
+/* Opens an input, or an output, one at a time; tells a failure and gives null. */
 FILE *open_input(const char *path);
 FILE *open_output(const char *path);
 
-/* Ends an output; tells that something could not be written to it. 0 is success. */
+/* Ends an output and puts it in the place of the old file; tells that something could not be written, and then the old
+ * file stays. 0 is success. */
 int close_output(FILE *file, const char *path);
 
 /* How messages call an input and an output. */
@@ -33,5 +39,9 @@ int load_bytes(const char *path, uint8_t sheet[SHEET_MOST + 1], size_t *n);
 
 /* The same, and checks that they are a sheet. A refused one is told with the record at fault. */
 int load_sheet(const char *path, uint8_t sheet[SHEET_MOST + 1], size_t *n);
+
+/* The same; where the output is the input's own file, only once no other program changes it in this way, and until this
+ * one ends none does. */
+int load_to_change(const char *input, const char *output, uint8_t sheet[SHEET_MOST + 1], size_t *n);
 
 #endif

@@ -76,7 +76,7 @@ static void tell_later_kinds(const char *input, const uint8_t *sheet) {
 int convert(const char *input, const char *output, conversion *by) {
     static uint8_t sheet[SHEET_MOST + 1], result[SHEET_MOST];
     size_t n;
-    if (load_sheet(input, sheet, &n))
+    if (load_to_change(input, output, sheet, &n))
         return REFUSED;
     eas_text text = by(sheet, n, result, sizeof result);
     if (text.number)
