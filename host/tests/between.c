@@ -1,12 +1,13 @@
-/* Preloaded in front of a tool: stands between the tool and the calls that put a file on the disk and in its place.
- * CALLS names a file that each call is noted in, FAIL a call that fails, STOP the number of a signal that comes in
- * place of the rename. */
+/* Preloaded in front of a tool: stands between the tool and the calls that lock a file, put it on the disk and in its
+ * place. CALLS names a file that each call is noted in, FAIL a call that fails, STOP the number of a signal that comes
+ * in place of the rename. */
 #include <errno.h>
 #include <fcntl.h>
 #include <signal.h>
 #include <stdio.h>
 #include <stdlib.h>
 #include <string.h>
+#include <sys/file.h>
 #include <sys/stat.h>
 #include <sys/syscall.h>
 #include <unistd.h>
@@ -23,6 +24,10 @@ static int note(const char *call) {
         return 0;
     errno = EIO;
     return -1;
+}
+
+int flock(int fd, int operation) {
+    return note("lock") ? -1 : (int)syscall(SYS_flock, fd, operation);
 }
 
 int fsync(int fd) {

@@ -84,8 +84,9 @@ short_lines() {
         grep -q '^LD libairstate.so' "$work/made" && ! grep -qF lacking-cc "$work/made"
 }
 whole_lines() {
-    shows V=1 && grep -q 'lacking-cc .*-c tools/utf8.c -o' "$work/made" && grep -q 'lacking-cc .*-lcsv.*/sheet_tool$' \
-        "$work/made" && grep -q 'lacking-cc -shared .*libairstate.so' "$work/made" && ! grep -q '^\(CC\|LD\) ' "$work/made"
+    shows V=1 && grep -q 'lacking-cc .*-c tools/utf8.c -o' "$work/made" &&
+        grep -q 'lacking-cc .*-lcsv.*/sheet_tool$' "$work/made" &&
+        grep -q 'lacking-cc -shared .*libairstate.so' "$work/made" && ! grep -q '^\(CC\|LD\) ' "$work/made"
 }
 expect "a command is shown in short" short_lines
 expect "V=1 shows it whole" whole_lines

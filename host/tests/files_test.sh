@@ -12,7 +12,7 @@ if test ! -x "$tool" || test ! -x "$plot"; then
     finish files
 fi
 
-# The sheet of a lab, 60,981 bytes in version 2, the same in version 1, and its text.
+# The sheet of a lab, 60,980 bytes in version 2, the same in version 1, and its text.
 { echo name,kind,first,density; seq 1001 3651 | sed 's/$/,1,101330000000,129200000000/'; } > "$work/lab.csv"
 "$tool" pack -o "$work/one.eas" "$work/lab.csv" && "$tool" forward -o "$work/two.eas" "$work/one.eas" || exit 1
 small=$PWD/samples/sample.eas drawn=$PWD/samples/slash-and-space.eas
@@ -80,7 +80,7 @@ for way in $ways; do
 done
 mode_of() {
     begin
-    (umask "$1" && writes pack "$folder/new.eas") && stat -c %a "$folder/new.eas" && test "$(stat -c %a "$folder/new.eas")" = "$2"
+    (umask "$1" && writes pack "$folder/new.eas") && test "$(stat -c %a "$folder/new.eas")" = "$2"
 }
 expect "a new file's mode by the umask" mode_of 022 644
 expect "a new file's mode by another umask" mode_of 027 640
@@ -106,6 +106,12 @@ through_links() {
 expect "a link's target is replaced" through_links
 rm "$folder/there/sheet.eas"
 expect "a link's target is made" through_links
+ln "$folder/there/sheet.eas" "$folder/there/second.eas"
+one_of_two() {
+    writes forward "$folder/link.eas" && cmp "$folder/there/sheet.eas" "$work/two.eas" &&
+        cmp "$folder/there/second.eas" "$work/one.eas"
+}
+expect "a second hard link keeps the old bytes" one_of_two
 ln -sf link.eas "$folder/there/link.eas"
 expect "links without an end" refused "Too many levels of symbolic links" writes pack "$folder/link.eas"
 begin
@@ -167,7 +173,7 @@ grows_limited() {
     (ulimit -f 8 && "$tool" add -o "$folder/lab.eas" new 1 1 1 "$folder/lab.eas")
 }
 expect "a sheet that grows in place, beyond a limit" kept "File too large" "$folder/lab.eas" grows_limited
-expect "a new file beyond a limit is not begun" sh -c "cd '$folder' && ulimit -f 8 && ! '$tool' pack -o new.eas '$work/lab.csv'"
+expect "a new file beyond a limit" refused "new.eas: File too large" limited pack "$folder/new.eas"
 expect "nothing is left of it" alone lab.eas
 
 # A file system of 68 KB, in which a second sheet finds no room; where none can be mounted, the device that is full.
@@ -182,7 +188,7 @@ for way in -m -rm; do
 done
 kept_on_small_disk() {
     begin
-    unshare "$space" sh "$work/on-small-disk" "$folder" "$tool" "$work/two.eas" 2> "$work/message" && cat "$work/message" &&
+    unshare "$space" sh "$work/on-small-disk" "$folder" "$tool" "$work/two.eas" 2> "$work/message" &&
         test "$(cat "$work/message")" = "sheet_tool: lab.eas: No space left on device"
 }
 if test -n "$space"; then
@@ -200,9 +206,10 @@ grows() {
 }
 begin
 cp "$work/two.eas" "$folder/lab.eas"
-for call in "flush file" rename; do
+for call in "flush file" rename lock; do
     expect "a failed $call" kept "Input/output error" "$folder/lab.eas" grows between FAIL="$call"
 done
+expect "another file needs no lock" between FAIL=lock "$tool" add -o "$work/grown.eas" new 1 1 1 "$folder/lab.eas"
 # ended STATUS SIGNAL: the tool is ended in place of the rename, and the sheet stays.
 ended() {
     (grows between STOP="$2")
@@ -224,11 +231,12 @@ expect "a signal that is ignored stays so, and the state is added after all that
 rm -f "$folder"/.airstate-*
 cp "$work/two.eas" "$folder/lab.eas"
 in_order() {
-    grows between CALLS="$work/calls" && cat "$work/calls" && test "$(cat "$work/calls")" = "flush file
+    grows between CALLS="$work/calls" && cat "$work/calls" && test "$(cat "$work/calls")" = "lock
+flush file
 rename
 flush folder"
 }
-expect "the bytes go to the disk before the name, and then the name" in_order
+expect "a lock; the bytes go to the disk before the name, and then the name" in_order
 cp "$work/two.eas" "$folder/lab.eas"
 expect "a failed flush of the folder is told" refused "Input/output error" grows between FAIL="flush folder"
 expect "the new sheet stands then" sh -c "'$tool' list '$folder/lab.eas' | grep -q '^new '"
@@ -296,5 +304,10 @@ held() {
 expect "an add in place waits for the lock" held "$tool" add -o "$folder/lab.eas" x 1 1 1 "$folder/lab.eas"
 expect "a conversion in place waits for the lock" held "$tool" back -o "$folder/lab.eas" "$folder/lab.eas"
 expect "a reader does not" flock "$folder/lab.eas" "$tool" list "$folder/lab.eas"
-expect "an add to another file does not" flock "$folder/lab.eas" "$tool" add -o "$folder/new.eas" x 1 1 1 "$folder/lab.eas"
+from_standard_input() {
+    flock "$folder/lab.eas" "$tool" add -o "$folder/lab.eas" x 1 1 1 < "$folder/lab.eas"
+}
+expect "an add to standard input's sheet does not" from_standard_input
+expect "an add to another file does not" flock "$folder/lab.eas" \
+    "$tool" add -o "$folder/new.eas" y 1 1 1 "$folder/lab.eas"
 finish files

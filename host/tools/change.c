@@ -31,7 +31,8 @@ static int lock_until_end(const char *path) {
     static int file;
     while ((file = open(path, O_RDWR | O_CLOEXEC)) >= 0) {
         if (flock(file, LOCK_EX) != 0)
-            return refuse("%s: no lock, so that another program could change it too: %s", path, strerror(errno));
+            return refuse("%s: it cannot be locked, and what another program adds could be lost: %s", path,
+                          strerror(errno));
         if (is_at(file, path))
             return DONE;
         close(file);
