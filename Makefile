@@ -4,8 +4,8 @@
 #   make                             both libraries, the listing program and the tools; V=1 shows whole commands
 #   make run                         proves and builds the listing program and runs it on the sample sheet
 #   make test                        builds and runs everything under host/, with the listing program, the weights of the
-#                                    program vectors, an installation and an unpacked release; a check that is left out
-#                                    is an error, unless STRICT= is given
+#                                    program vectors, an installation, an unpacked release and builds that lack a
+#                                    package; a check that is left out is an error, unless STRICT= is given
 #   make install PREFIX=/usr/local   header, libraries, pkg-config file, programs, man pages and documents; DESTDIR is
 #                                    put in front
 #   make dist                        target/host/airstate-VERSION-MACHINE.tar.gz with all that is installed, for hosts
@@ -67,7 +67,8 @@ $(PROVED_VECTORS): $(CRATES) | $(STATIC) $(LISTING)
 # Only the header's entries are visible in the shared library.
 $(SHARED): $(STATIC) host/airstate.map
 	@mkdir -p $(@D)
-	$(if $(filter-out 0, $(V)),,@echo 'LD $(@F)'; )$(CC) -shared $(LDFLAGS) -Wl,-soname,libairstate.so.$(MAJOR) -Wl,--version-script=host/airstate.map -Wl,-z,defs \
+	$(if $(filter-out 0, $(V)),,@echo 'LD $(@F)'; )$(CC) -shared $(LDFLAGS) -Wl,-soname,libairstate.so.$(MAJOR) \
+		-Wl,--version-script=host/airstate.map -Wl,-z,defs \
 		-Wl,--whole-archive $(STATIC) -Wl,--no-whole-archive $(LIBS) -o $@
 
 tools: $(STATIC)

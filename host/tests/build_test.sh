@@ -5,7 +5,7 @@ cd "$(dirname "$0")/../.." || exit 1
 . host/tests/check.sh
 static=$1
 listing=$2
-unset MAKEFLAGS MFLAGS MAKELEVEL V CFLAGS
+unset MAKEFLAGS MFLAGS MAKELEVEL STRICT V CFLAGS
 
 # lacks HEADER...: the compiler at hand finds none of these, and pkg-config finds nothing where pango is one of them.
 lacks() {

@@ -120,10 +120,11 @@ static FILE *open_temporary(const char *path, const struct stat *old) {
     FILE *file = set_mode(number, old) ? fdopen(number, "wb") : NULL;
     if (file)
         return file;
-    no_file(path);
+    int fault = errno;
     close(number);
     remove_temporary();
-    return NULL;
+    errno = fault;
+    return no_file(path);
 }
 
 /* Whether a path is that of standard output, as /dev/stdout is. */
@@ -143,7 +144,9 @@ FILE *open_output(const char *path) {
     if (!exists || S_ISREG(s.st_mode))
         return open_temporary(path, exists ? &s : NULL);
     FILE *file = fopen(path, "wb");
-    return file ? file : no_file(path);
+    if (!file)
+        refuse_file(path);
+    return file;
 }
 
 /* Sends what is left to the file, a temporary one to the disk, and closes it. Gives errno's number; 0 is success. */
