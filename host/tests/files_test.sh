@@ -61,7 +61,7 @@ refused() {
 kept() {
     reason=$1 out=$2
     shift 2
-    cp "$out" "$work/before"
+    cp -f "$out" "$work/before"
     refused "$reason" "$@" && cmp "$out" "$work/before" && alone "$(basename "$out")"
 }
 
@@ -297,7 +297,7 @@ done
 expect "nothing is left beside the sheet" alone lab.eas there
 # held COMMAND...: while another program holds the sheet, the command waits, until it is ended, and changes nothing.
 held() {
-    cp "$folder/lab.eas" "$work/before"
+    cp -f "$folder/lab.eas" "$work/before"
     flock "$folder/lab.eas" timeout 1 "$@"
     test $? -eq 124 && cmp "$folder/lab.eas" "$work/before" && alone lab.eas there
 }
