@@ -12,15 +12,15 @@
  *   6  a perfect gas is a microkelvin too hot, for the states that no check looks at
  *   7  fits are not joined: each has the polynomials of its own density's band; check 3 must find it
  *   8  the ends of a joined pressure have the densities of the strip's ends, as in the listing; check 3 must find it
- *   9  no state that has a remark is found; check 1 must find it
- *  10  a conversion loses the last state; check 1 must find it
- *  11  a conversion to version 1 drops remarks, where 18 is due; check 1 must find it
- *  12  a state is added by its name as it is spelled, never decoded; check 1 must find it
- *  13  a walk goes on over states that were added after its beginning; check 1 must find it
- *  14  eas_find gives the place of the next record's name; check 1 must find it
+ *   9  no state that has a remark is found; the line of remarks must find it
+ *  10  a conversion loses the last state; the line of conversions must find it
+ *  11  a conversion to version 1 drops remarks, where 18 is due; the line of conversions must find it
+ *  12  a state is added by its name as it is spelled, never decoded; the line of added states must find it
+ *  13  a walk goes on over states that were added after its beginning; the line of added states must find it
+ *  14  eas_find gives the place of the next record's name; the line of remarks must find it
  *  15  eas_record_at counts from 1; check 2 must find it
- *  16  eas_remark gives every remark from the sheet's first byte on; check 1 must find it
- *  17  eas_remark gives the remark of the next record; check 1 must find it
+ *  16  eas_remark gives every remark from the sheet's first byte on; the line of remarks must find it
+ *  17  eas_remark gives the remark of the next record; the line of remarks must find it
  */
 #include <ctype.h>
 #include <math.h>

@@ -26,10 +26,10 @@ typedef enum {
     WAYS
 } way;
 
-/* A sheet with the same states, in which each name is asked for a second time; GROWN has up to ADDITIONS behind them.
+/* A sheet with the same states, in which each name is asked for a second time; GROWN has up to NEW_STATES behind them.
  */
-typedef enum { WITHOUT_REMARKS, CONVERTED, GROWN, TWINS } twin;
-enum { ADDITIONS = 8 };
+typedef enum { WITHOUT_REMARKS, CONVERTED, GROWN, REVERSED, TWINS } twin;
+enum { NEW_STATES = 8 };
 
 typedef enum {
     AS_WRITTEN, /* as a listing writes the name */
@@ -60,6 +60,7 @@ typedef struct {
     eas_record found, in_row;
     eas_part remark;
     bool differs[TWINS][WAYS]; /* another is shown in a twin, or what is given there is wrong */
+    bool lost_by_remark[WAYS]; /* a part that is refused, but not where the sheet's remarks are taken away */
 } asked_name;
 
 /* What the conversion of a sheet to its other version gives as a whole. */
@@ -87,8 +88,9 @@ typedef struct {
     bool numbers_alone[WAYS]; /* from BY_FIND on, whether only numbers are given what is wrong, as if they were rows */
 } asked_sheet;
 
-/* Reads a sheet and asks for all its names. Null, with a message, where it cannot be read or is refused. */
-asked_sheet *ask_sheet(const char *path);
+/* Reads a sheet and asks for all its names. Null where it cannot be read or is refused, with the reason and, where one
+ * is at fault, the record. */
+asked_sheet *ask_sheet(const char *path, char reason[REASON_ROOM]);
 
 /* Memory, or the end of the program where there is none. */
 void *checked(void *memory);

@@ -149,7 +149,7 @@ static double distance_to(double value, double wrong, double unit, const right_s
 }
 
 /* The cause whose wrong value is the nearest. */
-static cause cause_by_value(double value, double unit, const right_state *right) {
+cause cause_by_value(double value, double unit, const right_state *right) {
     double least = HUGE_VAL;
     cause nearest = OTHERWISE;
     for (int i = 0; i < RANGES + LOST_SIGNS + 1; i++) {
@@ -172,6 +172,7 @@ static cause cause_by_twin(const asked_name *name, way w) {
     return name->differs[WITHOUT_REMARKS][w] ? BY_REMARKS
            : name->differs[CONVERTED][w]     ? BY_CONVERSION
            : name->differs[GROWN][w]         ? BY_ADDITION
+           : name->differs[REVERSED][w]      ? BY_ORDER
                                              : RIGHT;
 }
 
@@ -180,6 +181,8 @@ static cause cause_of_part(const asked_sheet *sheet, const asked_name *name, way
         return cause_by_twin(name, w);
     if (name->absent)
         return FOUND_ABSENT;
+    if (name->lost_by_remark[w])
+        return BY_REMARKS;
     if (part_refusal(name, w))
         return NOT_FOUND;
     return state_given(sheet, name, w) != SIZE_MAX ? ANOTHERS : OTHERWISE;
@@ -208,19 +211,21 @@ static cause cause_of(const asked_sheet *sheet, const asked_name *name, way w) {
 
 /* ---- which check it is for */
 
-static unsigned checks_of(const asked_sheet *sheet, const named_state *s) {
+unsigned checks_of(const asked_sheet *sheet, const named_state *s) {
     const right_state *right = &s->right;
     return (has_signs(s) ? BIT(SIGNS) : 0) | (has_digits_only(sheet, s) ? BIT(DIGITS) : 0) |
            (right->edge ? BIT(EDGES) : 0) | (!right->number && right->blended ? BIT(TRANSITION) : 0) |
            (right->number ? BIT(RANGE) : 0);
 }
 
-/* A name that is also the number of its row cannot tell. */
+/* A name that is also the number of its row, in the sheet and in its reversed copy, cannot tell. */
 static unsigned places_by_name(const asked_sheet *sheet, const named_state *s) {
     if (!has_digits_only(sheet, s))
         return has_signs(s) ? BIT(A_SIGN) : 0;
     uint64_t row = (uint64_t)(s - sheet->states), number = number_in_name(sheet, s);
-    return number != row && number != row + 1 ? BIT(A_NUMBER) : 0;
+    uint64_t reversed = sheet->parsed.count - 1 - row;
+    bool tells = number != row && number != row + 1, tells_reversed = number != reversed && number != reversed + 1;
+    return tells || tells_reversed ? BIT(A_NUMBER) : 0;
 }
 
 /* A state where a wrong curve has the right value cannot tell: beside a strip that of the neighbouring range, in it
@@ -250,21 +255,12 @@ static unsigned places_by_value(const right_state *right) {
 /* Whether a state's name is the number of a row that is there only where states are added. */
 static bool is_new_row(const asked_sheet *sheet, const named_state *s) {
     uint64_t number = has_digits_only(sheet, s) ? number_in_name(sheet, s) : 0;
-    return number >= sheet->parsed.count && number <= sheet->parsed.count + ADDITIONS;
+    return number >= sheet->parsed.count && number <= sheet->parsed.count + NEW_STATES;
 }
 
-/* A fault that a check names goes to that check alone, any other to all that look at the state. Of a part of the sheet
- * a wrong row goes to the numbers, and so does what is wrong for numbers alone. */
-static unsigned charged_checks(const asked_sheet *sheet, const asked_name *name, unsigned looking, way w, cause c) {
+/* A fault that a check names goes to that check alone, any other to all that look at the state. */
+unsigned charged_by_cause(unsigned looking, cause c) {
     unsigned by_name = looking & (BIT(SIGNS) | BIT(DIGITS)), by_value = looking & ~by_name;
-    if (c == BY_REMARKS || c == BY_CONVERSION)
-        return BIT(SIGNS);
-    if (name->absent)
-        return BIT(name->as == ROW_NUMBER ? DIGITS : SIGNS);
-    if (c == BY_ADDITION)
-        return BIT(is_new_row(sheet, &sheet->states[name->state]) ? DIGITS : SIGNS);
-    if (is_part(w))
-        return BIT(w == BY_ROW || sheet->numbers_alone[w] ? DIGITS : SIGNS);
     if (c == NOT_FOUND || c == ANOTHERS)
         return by_name ? by_name : BIT(OTHERS);
     if ((c == NEIGHBOURS || c == NOT_JOINED || c == END_DENSITIES) && by_value & BIT(EDGES))
@@ -272,6 +268,28 @@ static unsigned charged_checks(const asked_sheet *sheet, const asked_name *name,
     if (c == SIGN_LOST && by_value & BIT(TRANSITION))
         return BIT(TRANSITION);
     return by_value ? by_value : BIT(OTHERS);
+}
+
+/* Of a part of the sheet a wrong row goes to the numbers, and so does what is wrong for numbers alone; a spelled name
+ * that is not found goes to the signs. */
+static unsigned charged_by_part(const asked_sheet *sheet, unsigned looking, way w, cause c) {
+    if (w == BY_ROW || sheet->numbers_alone[w])
+        return BIT(DIGITS);
+    return BIT(c == NOT_FOUND && looking & BIT(SIGNS) ? SIGNS : REMARKS);
+}
+
+/* What a copy of the sheet shows otherwise goes to the line of that copy; a number that is taken as a row, to the
+ * numbers. */
+static unsigned charged_checks(const asked_sheet *sheet, const asked_name *name, unsigned looking, way w, cause c) {
+    if (c == BY_REMARKS || c == BY_CONVERSION)
+        return BIT(c == BY_REMARKS ? REMARKS : CONVERSION);
+    if (name->absent)
+        return BIT(name->as == ROW_NUMBER ? DIGITS : SIGNS);
+    if (c == BY_ADDITION)
+        return BIT(is_new_row(sheet, &sheet->states[name->state]) ? DIGITS : ADDITIONS);
+    if (c == BY_ORDER)
+        return BIT((looking & BIT(DIGITS)) ? DIGITS : OTHERS);
+    return is_part(w) ? charged_by_part(sheet, looking, w, c) : charged_by_cause(looking, c);
 }
 
 /* The checks that a name is charged to, with the causes by each way. */
@@ -307,10 +325,10 @@ static bool is_misconverted(const asked_sheet *sheet) {
 }
 
 void judge_sheet(const asked_sheet *sheet, tally tallies[TALLIES]) {
-    if (is_misconverted(sheet) && !tallies[SIGNS].misconverted)
-        tallies[SIGNS].misconverted = sheet;
-    if (sheet->addition.wrong && !tallies[SIGNS].misgrown)
-        tallies[SIGNS].misgrown = sheet;
+    if (is_misconverted(sheet) && !tallies[CONVERSION].misconverted)
+        tallies[CONVERSION].misconverted = sheet;
+    if (sheet->addition.wrong && !tallies[ADDITIONS].misgrown)
+        tallies[ADDITIONS].misgrown = sheet;
     for (size_t i = 0; i < sheet->parsed.count; i++)
         look_at(sheet, &sheet->states[i], tallies);
     for (size_t i = 0; i < sheet->count; i++) {

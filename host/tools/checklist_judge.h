@@ -1,11 +1,11 @@
-/* The five checks: which states each looks at, and which faults it is charged with. */
+/* The five checks and the further lines: which states each looks at, and which faults it is charged with. */
 #ifndef CHECKLIST_JUDGE_H
 #define CHECKLIST_JUDGE_H
 
 #include "checklist_ask.h"
 
-/* OTHERS: states that no check looks at. */
-enum { SIGNS, DIGITS, EDGES, TRANSITION, RANGE, CHECKS, OTHERS = CHECKS, TALLIES };
+/* The five checks, and further lines; OTHERS: states that no check looks at. */
+enum { SIGNS, DIGITS, EDGES, TRANSITION, RANGE, CHECKS, REMARKS = CHECKS, CONVERSION, ADDITIONS, OTHERS, TALLIES };
 
 /* What a check needs a state for; without one for each of its places it is not passed. */
 enum {
@@ -32,6 +32,7 @@ typedef enum {
     BY_REMARKS,    /* it is another where the sheet's remarks are taken away */
     BY_CONVERSION, /* it is right, but another where the sheet is converted to its other version */
     BY_ADDITION,   /* it is right, but another where states are added to the sheet */
+    BY_ORDER,      /* it is right, but another where the sheet's states stand in reverse order */
     NOT_FOUND,     /* refused as a name that no state has, or missing from the run list */
     FOUND_ABSENT,  /* something is shown for a name that no state has */
     ANOTHERS,      /* another state's answer */
@@ -40,7 +41,8 @@ typedef enum {
     NOT_JOINED,    /* by the curves of one band in a strip */
     END_DENSITIES, /* a joined pressure with the densities of the strip's ends */
     SIGN_LOST,     /* with a sign lost in the weight */
-    OTHERWISE
+    OTHERWISE,
+    CAUSES
 } cause;
 
 /* What a way shows: a refusal, or the logarithm of the density ratio and the value, in an answer's units or, without Z,
@@ -71,6 +73,16 @@ typedef struct {
     const asked_sheet *misconverted; /* the first sheet whose conversion is wrong as a whole, else null */
     const asked_sheet *misgrown;     /* the first to which a state is added wrongly, else null */
 } tally;
+
+/* The checks that look at a state, a bit each. */
+unsigned checks_of(const asked_sheet *sheet, const named_state *s);
+
+/* Those of them that a fault of an answer is charged to. */
+unsigned charged_by_cause(unsigned looking, cause c);
+
+/* What is wrong with a value of the state that is not right; the unit is that of its last digit, which is rounded down,
+ * or 0. */
+cause cause_by_value(double value, double unit, const right_state *right);
 
 /* Adds a sheet to the tallies. */
 void judge_sheet(const asked_sheet *sheet, tally tallies[TALLIES]);

@@ -33,20 +33,28 @@ static void compare_shown(asked_name *own, twin t, const asked_name *its) {
         own->differs[t][w] = !same_lines(&own->lines[w], &its->lines[w]);
 }
 
+/* Which record or name of a twin is that of the sheet: as many from the other end where it is reversed. */
+static size_t mirrored(const asked_sheet *sheet, twin t, size_t i) {
+    return t == REVERSED && i < sheet->parsed.count ? sheet->parsed.count - 1 - i : i;
+}
+
 /* Notes where a twin gives what its own bytes do not say, or these say another beside the place. */
 static void compare_given(asked_sheet *sheet, twin t, const asked_sheet *other, const parsed_sheet *parsed, size_t i) {
     asked_name *own = &sheet->names[i];
-    eas_record record = record_due(&sheet->parsed, own), its = record_due(parsed, own);
-    bool same = same_but_place(sheet->bytes, record, other->bytes, its);
-    for (way w = SHOWN_WAYS; w < WAYS; w++)
-        own->differs[t][w] = is_asked_by(own, w) && (!part_is_right(parsed, &other->names[i], w) || !same);
+    const asked_name *its = &other->names[mirrored(sheet, t, i)];
+    bool same = same_but_place(sheet->bytes, record_due(&sheet->parsed, own), other->bytes, record_due(parsed, its));
+    for (way w = SHOWN_WAYS; w < WAYS; w++) {
+        own->differs[t][w] = is_asked_by(own, w) && (!part_is_right(parsed, its, w) || !same);
+        if (t == WITHOUT_REMARKS)
+            own->lost_by_remark[w] = part_refusal(own, w) && !part_refusal(its, w);
+    }
 }
 
 static void compare_with(asked_sheet *sheet, twin t, const asked_sheet *other) {
     static parsed_sheet parsed;
     sheet_parse(&parsed, other->bytes, other->n);
     for (size_t i = 0; i < sheet->count; i++) {
-        compare_shown(&sheet->names[i], t, &other->names[i]);
+        compare_shown(&sheet->names[i], t, &other->names[mirrored(sheet, t, i)]);
         compare_given(sheet, t, other, &parsed, i);
     }
 }
@@ -82,6 +90,43 @@ static void ask_converted(asked_sheet *sheet, const uint8_t *bare, size_t n) {
     sheet->conversion.returns = !there.number && !back.number && back.length == n && !memcmp(again, bare, n);
     if (!there.number)
         ask_twin(sheet, CONVERTED, other, there.length);
+}
+
+/* ---- the reverse order */
+
+/* The records of a sheet from the last one to the first; returns the length. */
+static size_t put_reversed(uint8_t *to, const asked_sheet *sheet) {
+    size_t n = HEAD, end = sheet->n;
+    memcpy(to, sheet->bytes, HEAD);
+    for (size_t i = sheet->parsed.count; i > 0; i--) {
+        size_t begin = sheet->parsed.records[i - 1].start - 1;
+        memcpy(to + n, sheet->bytes + begin, end - begin);
+        n += end - begin;
+        end = begin;
+    }
+    return n;
+}
+
+static bool has_numbers(const asked_sheet *sheet) {
+    for (size_t i = 0; i < sheet->parsed.count; i++)
+        if (has_digits_only(sheet, &sheet->states[i]))
+            return true;
+    return false;
+}
+
+/* Where every name is the number of its row, only another order tells a name from a row. */
+static void ask_reversed(asked_sheet *sheet) {
+    static uint8_t bytes[SHEET_MOST];
+    asked_sheet *other = twin_of(sheet, bytes, put_reversed(bytes, sheet));
+    for (size_t i = 0; i < sheet->parsed.count; i++) {
+        other->names[i] = sheet->names[mirrored(sheet, REVERSED, i)];
+        other->names[i].state = i;
+    }
+    for (size_t i = sheet->parsed.count; i < sheet->count; i++)
+        other->names[i].state = mirrored(sheet, REVERSED, other->names[i].state);
+    ask_all(other);
+    compare_with(sheet, REVERSED, other);
+    free_twin(other);
 }
 
 /* ---- more states */
@@ -128,7 +173,7 @@ static void walk_growing(asked_sheet *sheet) {
     asked_walk walk = begin_walk(sheet);
     uint32_t number = 0;
     do
-        if (number < ADDITIONS)
+        if (number < NEW_STATES)
             grow(sheet, &number);
     while (step_walk(&walk, sheet));
     end_walk(&walk, sheet);
@@ -155,6 +200,8 @@ static void ask_grown(asked_sheet *sheet) {
 void ask_twins(asked_sheet *sheet) {
     static uint8_t bare[SHEET_MOST];
     ask_grown(sheet);
+    if (has_numbers(sheet))
+        ask_reversed(sheet);
     if (sheet_version(sheet->bytes) == 1) {
         ask_converted(sheet, sheet->bytes, sheet->n);
         return;

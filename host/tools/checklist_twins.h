@@ -1,5 +1,5 @@
-/* Twins of a sheet: the same one without its remarks, in its other version, and with more states. Every name must show
- * the same in them. */
+/* Twins of a sheet: the same one without its remarks, in its other version, with more states, and in reverse order.
+ * Every name must show the same in them. */
 #ifndef CHECKLIST_TWINS_H
 #define CHECKLIST_TWINS_H
 

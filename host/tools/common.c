@@ -53,8 +53,8 @@ static bool pass_record(const uint8_t *sheet, size_t n, size_t *at) {
     return true;
 }
 
-/* Tells where the sheet is refused, by checking it cut after each record in turn. */
-static int refuse_sheet(const char *input, uint8_t *sheet, size_t n, uint32_t number) {
+/* The record is found by checking the sheet cut after each one in turn. */
+void tell_refusal(char reason[REASON_ROOM], uint8_t *sheet, size_t n, uint32_t number) {
     char place[40] = "", found[40] = "";
     unsigned count = number > EAS_VERSION_UNKNOWN ? record_count(sheet) : 0;
     size_t at = HEAD;
@@ -70,7 +70,13 @@ static int refuse_sheet(const char *input, uint8_t *sheet, size_t n, uint32_t nu
         snprintf(place, sizeof place, "record %u: ", record);
         break;
     }
-    return refuse("%s: %srefusal %u: %s%s", input, place, number, eas_reason(number), found);
+    snprintf(reason, REASON_ROOM, "%srefusal %u: %s%s", place, number, eas_reason(number), found);
+}
+
+static int refuse_sheet(const char *input, uint8_t *sheet, size_t n, uint32_t number) {
+    char reason[REASON_ROOM];
+    tell_refusal(reason, sheet, n, number);
+    return refuse("%s: %s", input, reason);
 }
 
 int load_sheet(const char *path, uint8_t sheet[SHEET_MOST + 1], size_t *n) {
