@@ -75,7 +75,7 @@ expect "joined entropies are explained" shows "$work/slash-and-space.svg" "entro
 expect "where there is none it is not" lacks "$work/shock-tunnel.svg" "temperature, $joins"
 expect "strips of both kinds" shades "$work/slash-and-space.svg" 6
 
-# Pressures: a panel of their own in whole pascals, joined at every Z.
+# Pressures: a panel of their own, joined at every Z, with the answers' own values.
 pressures=$work/energy-and-pressure.svg
 for name in "lower-edge/below 1" "lower-edge/on 1" "lower-edge/above 7" "upper-edge/on 6" "upper-edge/limit"; do
     expect "$name is a join" drawn_as "$pressures" "$name" "$diamond"
@@ -87,17 +87,33 @@ expect "joined pressures are explained" shows "$pressures" "pressure, $joins"
 expect "no perfect gas among pressures" lacks "$pressures" "pressure, perfect gas (Z up to 0.25)"
 expect "the panel's title" shows "$pressures" "Pressure, 126 states"
 expect "the panel's unit" shows "$pressures" "pressure, Pa"
-expect "whole pascals in the list" shows "$pressures" "7190121618"
-expect "a pressure below a pascal" sh -c "grep -q '<title>[0-9]*  thinnest: 0 Pa, ' '$pressures'"
+expect "a large pressure in the list" shows "$pressures" "7190121618"
+expect "a pressure with six digits" shows "$pressures" "18398.6"
+expect "a pressure below a pascal" sh -c "grep -q '<title>[0-9]*  thinnest: 0.038447 Pa, ' '$pressures'"
 expect "a pressure in its mark's title" sh -c "grep -q '<title>[0-9]*  upper-edge/on 4: 689732 Pa, ' '$pressures'"
 expect "what Z is for pressures" shows "$pressures" "log10 of p/p₀ over ρ/ρ₀, for entropy and pressure of e/e₀"
-expect "a tick by its power of ten" shows "$pressures" "1e+09"
+expect "a tick by its power of ten" shows "$pressures" "10⁹"
+expect "every tick of that axis so" shows "$pressures" "10²"
+expect "and every density" shows "$pressures" "1.29·10⁻²"
+expect "no number in another style" sh -c "! sed -n 's/.*<text[^>]*>\(.*\)<.text>.*/\1/p' '$pressures' | grep -q -x -e '[0-9.]*e[+-][0-9]*' -e 1000000"
 expect "strips of entropy and pressure" shades "$pressures" 6
 expect "why a pressure has no point" sh -c "sed -n 's/.*<text[^>]*>\(.*\)<.text>.*/\1/p' '$pressures' | tr -d '\n' |
     grep -q 'refusal 17: energy outside what the pressure fits cover at this density'"
 printf 'name,kind,energy_J_kg,density_kg_m3\na,pressure,78408.4,1e-6\nb,pressure,78408.4,2e-6\n' | "$tool" pack > "$work/thin.eas"
 expect "pressures below a pascal alone are drawn" "$plot" "$work/thin.eas" "$work/thin.svg" "$work/thin.png"
-expect "both have a mark" test "$(grep -c 'title>.*: 0 Pa' "$work/thin.svg")" -eq 2
+expect "both have a mark with its value" test "$(grep -c 'title>[0-9]*  [ab]: 0.0[36][0-9]* Pa' "$work/thin.svg")" -eq 2
+# Each of three pressures below a pascal stands at its own height, with its value in the list.
+printf 'name,kind,energy_J_kg,density_kg_m3\na,pressure,78408.4,2.5e-7\nb,pressure,78408.4,5.76e-6\nc,pressure,100000,1.42e-5\n' |
+    "$tool" pack > "$work/low.eas"
+expect "three pressures below a pascal are drawn" "$plot" "$work/low.eas" "$work/low.svg"
+for value in 0.007772 0.179072 0.563030; do
+    expect "$value Pa in the list" shows "$work/low.svg" "$value"
+done
+heights() {
+    test "$(sed -n '/^<g><title>/{n;s/.*cy="\([^"]*\)".*/\1/p;}' "$work/low.svg" | sort -un | wc -l)" -eq 3
+}
+expect "at three heights" heights
+expect "with plain numbers on their axis" shows "$work/low.svg" "0.01"
 expect "no coordinate is no number" sh -c "! grep -qi -e nan -e inf '$work/thin.svg' '$pressures'"
 printf 'name,pressure_Pa,density_kg_m3\nwarm,36000,0.41\ncold,24000,0.405\n' | "$tool" pack > "$work/cold.eas"
 "$plot" "$work/cold.eas" "$work/cold.svg"
@@ -172,7 +188,7 @@ expect "no tick far away" sh -c "! sed -n 's/.*<text[^>]*>\(.*\)<.text>.*/\1/p' 
 # 3,000 states: none is left out of the list, and the marks without a number are counted.
 {
     echo name,kind,first,density
-    seq 1 3000 | awk '{ printf "%d,1,%d,%d\n", $1, 5e10 + 3e7 * $1, 1e9 * (1 + $1 % 97) }'
+    seq 1 3000 | awk '{ printf "%d,1,%.0f,%.0f\n", $1, 5e10 + 3e7 * $1, 1e9 * (1 + $1 % 97) }'
 } > "$work/many.csv"
 expect "3,000 states are packed" "$tool" pack -o "$work/many.eas" "$work/many.csv"
 expect "3,000 states are drawn" "$plot" "$work/many.eas" "$work/many.svg"
@@ -221,7 +237,7 @@ expect "a remark moves no mark" moves_no_mark
 fullest() {
     {
         echo "name,kind,first,density,$1"
-        seq 10 245 | awk -v remark="$2" '{ printf "%d,1,%d,1000000000,%s\n", $1, 1e10 + 1e8 * $1, remark }'
+        seq 10 245 | awk -v remark="$2" '{ printf "%d,1,%.0f,1000000000,%s\n", $1, 1e10 + 1e8 * $1, remark }'
     } | "$tool" pack > "$work/fullest.eas" && "$plot" "$work/fullest.eas" "$work/fullest.svg" "$work/fullest.png"
 }
 counts() {
@@ -233,12 +249,80 @@ expect "236 remarks of 255 bytes that are no text are drawn" fullest remark_spel
 expect "each of their bytes" counts F 510
 {
     echo name,kind,first,density,remark
-    seq 1 2776 | awk '{ printf "%d,1,%d,%d,Q\n", $1, 5e10 + 3e7 * $1, 1e9 * (1 + $1 % 97) }'
+    seq 1 2776 | awk '{ printf "%d,1,%.0f,%.0f,Q\n", $1, 5e10 + 3e7 * $1, 1e9 * (1 + $1 % 97) }'
 } | "$tool" pack > "$work/many.eas"
 expect "2,776 states with short remarks are drawn" "$plot" "$work/many.eas" "$work/many.svg"
 expect "each of their remarks" test "$(remarks "$work/many.svg" | grep -cx Q)" -eq 2776
 expect "each of their names" names_all "$work/many.eas" "$work/many.svg"
 expect "none stands at the page's corner" sh -c "! grep -q 'y=\"0.0\"' '$work/many.svg' '$work/fullest.svg'"
+
+# Some of the states: by letters of their names and by density, with their numbers in the sheet.
+# chosen TITLE OPTION...: the drawing of the sample's pressures with these options has this title.
+chosen() {
+    says=$1
+    shift
+    "$plot" "$@" samples/energy-and-pressure.eas "$work/some.svg" && shows "$work/some.svg" "energy-and-pressure.eas: $says"
+}
+only() {
+    texts "$work/some.svg" | grep -q '^low/' && return 1
+    shows "$work/some.svg" "upper-edge/on 4" && shows "$work/some.svg" 106
+}
+expect "all states" chosen "137 states, 9 of them without a point"
+expect "states by letters of their names" chosen "33 of 137 states, 1 of them without a point" --match=upper-edge
+expect "no other stands there" only
+expect "states of densities" chosen "33 of 137 states, 1 of them without a point" --from=0.1 --to=1
+expect "states by both" chosen "7 of 137 states" --match=/on --from=0.408566 --to=.408567
+expect "no steps between states that are not neighbours" links "$work/some.svg" 0
+expect "a density's ends belong to it" chosen "1 of 137 states" --match=densest --from=1292 --to=1292
+ends "no state chosen" 1 "plot: samples/sample.eas: none of its 3 states is chosen" \
+    "$plot" --match=nothing samples/sample.eas "$work/x.svg"
+ends "no density" 2 "plot: --from=thin: no density in kg/m³
+Try 'plot --help'." "$plot" --from=thin samples/sample.eas "$work/x.svg"
+expect "nothing was drawn" test ! -e "$work/x.svg"
+
+# Without a list: names stand at marks alone.
+expect "a drawing without the list" "$plot" --no-list "$work/many.eas" "$work/bare.svg"
+expect "what its numbers are" sh -c "grep -q '>numbers: places in the sheet; [0-9]* marks stand too close for one<' '$work/bare.svg'"
+expect "no remark" test "$(remarks "$work/bare.svg" | grep -cx Q)" -eq 0
+expect "its page is as high as the panels" sh -c "head -n 2 '$work/bare.svg' | grep -q 'width=\"1380\" height=\"858\"'"
+
+# A PDF has one page of its own size, or pages of A4 where the list does not fit beside the panels.
+# pages FILE.pdf: their sizes, a line each.
+pages() {
+    python3 - "$1" << 'PYTHON'
+import re, sys, zlib
+data = open(sys.argv[1], "rb").read()
+parts = [data]
+for stream in re.findall(rb"stream\r?\n(.*?)endstream", data, re.DOTALL):
+    try:
+        parts.append(zlib.decompressobj().decompress(stream))
+    except zlib.error:
+        pass
+for part in parts:
+    for page in re.finditer(rb"/Type /Page\b(?!s)", part):
+        box = re.search(rb"/MediaBox \[ ([\d. ]+)\]", part[max(0, page.start() - 400):page.end() + 400])
+        print(" ".join(str(round(float(x))) for x in box[1].split()))
+PYTHON
+}
+has_pages() {
+    pages "$1" > "$work/pages"
+    cat "$work/pages"
+    test "$(wc -l < "$work/pages")" -eq "$2" && test "$(sort -u "$work/pages")" = "$3"
+}
+expect "a PDF of many states is drawn" "$plot" "$work/many.eas" "$work/many.pdf"
+expect "it has pages of A4" has_pages "$work/many.pdf" 18 "0 0 842 595"
+expect "so has that of two quantities" has_pages "$work/slash-and-space.pdf" 3 "0 0 842 595"
+expect "one of few states has one page" has_pages "$work/sample.pdf" 1 "0 0 1380 1190"
+
+# A letter that no font has is an error with the package, for what has no fonts of its own.
+printf '<?xml version="1.0"?><!DOCTYPE fontconfig SYSTEM "fonts.dtd"><fontconfig><dir>%s</dir><cachedir>%s</cachedir></fontconfig>' \
+    "$work/no-fonts" "$work/font-cache" > "$work/fonts.conf"
+for ending in png pdf; do
+    ends "no font for a $ending" 1 "plot: $work/boxes.$ending: no font that is installed has the letter s (U+0073): install the Debian package fonts-dejavu-core" \
+        env FONTCONFIG_FILE="$work/fonts.conf" "$plot" samples/sample.eas "$work/boxes.$ending"
+done
+expect "no boxes were drawn" test ! -e "$work/boxes.png" -a ! -e "$work/boxes.pdf"
+expect "an SVG has the viewer's fonts" env FONTCONFIG_FILE="$work/fonts.conf" "$plot" samples/sample.eas "$work/boxes.svg"
 
 # Names of every sort.
 printf 'name,spelled,pressure_Pa,density_kg_m3\n"<a> & ""b""",,1e5,1\nD\303\274se 1,,1e5,2\n,%%FF,1e5,3\n,a%%00b,1e5,4\n,%%20,1e5,5\n' |

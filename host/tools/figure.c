@@ -12,6 +12,10 @@ bool is_figure_path(const char *path) {
     return has_ending(path, ".svg") || has_ending(path, ".png") || has_ending(path, ".pdf");
 }
 
+bool is_paged_path(const char *path) {
+    return has_ending(path, ".pdf");
+}
+
 figure *open_figure(const char *path, double width, double height) {
     if (has_ending(path, ".svg"))
         return open_svg(path, width, height);

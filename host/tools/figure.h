@@ -36,6 +36,7 @@ struct figure {
     void (*text)(figure *f, point at, lettering l, const char *text);
     void (*open_group)(figure *f, const char *title);
     void (*close_group)(figure *f);
+    void (*begin_page)(figure *f, unsigned page); /* of those that open_pages was told, from 0, the first of itself */
     int (*finish)(figure *f); /* writes the file and frees the figure; tells a failure, 0 is success */
 };
 
@@ -45,8 +46,13 @@ figure *open_figure(const char *path, double width, double height);
 figure *open_svg(const char *path, double width, double height);
 figure *open_cairo(const char *path, double width, double height, bool pdf);
 
-/* Whether a path has one of the endings that open_figure knows. */
+/* A figure for a path that can have pages: a PDF of as many pages of A4, which lie on their sides. The page behind one
+ * begins where that one ends, at a multiple of the height. */
+figure *open_pages(const char *path, double width, double height, unsigned count);
+
+/* Whether a path has one of the endings that open_figure knows, and one that open_pages knows. */
 bool is_figure_path(const char *path);
+bool is_paged_path(const char *path);
 
 /* The width of a text as PNG and PDF show it; SVG viewers come near it. */
 double text_width(const char *words, double size, bool bold);

@@ -111,6 +111,11 @@ static void close_group(figure *f) {
     fputs("</g>\n", file_of(f));
 }
 
+static void begin_page(figure *f, unsigned page) {
+    (void)f;
+    (void)page;
+}
+
 static int finish(figure *f) {
     svg *s = (svg *)f;
     fputs("</svg>\n", s->file);
@@ -128,7 +133,7 @@ figure *open_svg(const char *path, double width, double height) {
         free(s);
         return NULL;
     }
-    s->base = (figure){stroke, fill, circle, text, open_group, close_group, finish};
+    s->base = (figure){stroke, fill, circle, text, open_group, close_group, begin_page, finish};
     s->path = path;
     s->file = file;
     fputs("<?xml version=\"1.0\" encoding=\"UTF-8\"?>\n", file);

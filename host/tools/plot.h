@@ -22,6 +22,7 @@ typedef struct {
     char name[SHOWN_ROOM]; /* as text, or spelled where it is none */
     char remark[REMARK_SHOWN_ROOM];
     eas_mark mark;
+    int64_t value; /* of the answer, in the units of its quantity */
     double z;
     bool fitted, joined;
     point place;
@@ -46,14 +47,26 @@ typedef struct {
     double least, most;
 } steps;
 
+/* Which states of the sheet are drawn: those with these letters in their names, from one density to another, in kg/m³.
+ */
+typedef struct {
+    const char *letters;
+    double from, to;
+} choice;
+
 typedef struct {
     const char *title;
+    choice wanted;
+    bool no_list;
+    bool paged; /* the list does not fit beside the panels, and is drawn as pages of A4 */
     item *items;
-    unsigned count, blanks, remarks; /* states, those without a point, those with a remark */
+    unsigned of;                     /* states of the sheet */
+    unsigned count, blanks, remarks; /* states that are drawn, those without a point, those with a remark */
     axis across;                     /* log10 of the density ratio */
     panel panels[KIND_COUNT];
     unsigned panel_count;
     double list_top, plot_bottom, width, height;
+    unsigned pages;
 } chart;
 
 /* The page: its largest and least width, the panels' left and right ends, and where the list beside them begins, lower
@@ -66,7 +79,9 @@ enum {
     LIST_LEFT = 1040,
     LIST_TOP = 140,
     PAGE_EDGE = 24,
-    REMARK_SIZE = 9 /* of letters */
+    REMARK_SIZE = 9,    /* of letters */
+    SHEET_WIDTH = 1380, /* of a page of A4, which lies on its side */
+    SHEET_HEIGHT = 976
 };
 
 /* At most so many curves of constant Z go through a band. */
@@ -74,7 +89,7 @@ enum { CURVES_MOST = 8 };
 
 extern const colour black, dark, grey, light;
 
-/* A state's place on the axes. */
+/* A state's place on the axes, its value by the answer: a mark of a pressure has whole pascals alone. */
 double across_of(const item *it);
 double up_of(const item *it, const kind_row *kind);
 const char *value_text(const item *it, const kind_row *kind);
@@ -109,8 +124,13 @@ void place_marks(chart *c, const panel *p);
 void draw_marks(figure *f, const chart *c, const panel *p);
 void draw_shape(figure *f, point at, colour ink, double size, const item *it);
 
-/* plot_list.c: lays the list out, which sets the page's height, and draws it. */
-void lay_out_list(chart *c);
-void draw_list(figure *f);
+/* plot_list.c: lays the list out, which sets the page's height, or the number of pages, and draws it. False where it
+ * does not fit beside the panels. */
+bool lay_out_list(chart *c);
+void draw_list(figure *f, const chart *c);
+
+/* plot_page.c: what stands around the panels, and the pages. */
+void lay_out(chart *c, bool in_pages);
+int draw_chart(chart *c, const char *path);
 
 #endif

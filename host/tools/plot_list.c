@@ -10,7 +10,7 @@
 enum {
     ROWS_MOST = SHEET_MOST,
     NUMBERS_MOST = 32,
-    COLUMNS_MOST = 32,
+    COLUMNS_MOST = 1024,
     NAME_WIDEST = 330,
     NAME_LEAST = 56,
     REMARK_INDENT = 8,
@@ -200,32 +200,50 @@ static int columns_in(double width) {
     return (int)fmax(floor((width + GAP) / (column_width + GAP)), 1);
 }
 
-/* Beside the panels, then below them; the page grows as the list does. */
-static void place_rows(chart *c) {
+/* On pages behind those of the panels. */
+static void place_on_pages(chart *c) {
+    size_t placed = 0;
+    for (c->pages = c->panel_count > 0 ? c->panel_count : 1; placed < row_count; c->pages++) {
+        box page = {PAGE_EDGE, c->pages * (double)SHEET_HEIGHT + PAGE_EDGE, SHEET_WIDTH - 2 * PAGE_EDGE,
+                    SHEET_HEIGHT - 3 * PAGE_EDGE};
+        placed = fill_columns(placed, page, columns_in(page.w));
+    }
+}
+
+/* Below the panels from a row on; the page grows as the list does. */
+static void place_below(chart *c, size_t from) {
+    box below = {PAGE_EDGE, c->plot_bottom + PAGE_EDGE, PAGE_WIDTH - 2 * PAGE_EDGE, 0};
+    int columns = columns_in(below.w);
+    below.h = (ceil((double)(row_count - from) / columns) + (c->remarks > 0 ? 3 : 2)) * PITCH;
+    fill_columns(from, below, columns);
+    c->width = PAGE_WIDTH;
+    c->height = below.y + below.h + PAGE_EDGE;
+}
+
+/* Beside the panels, then below them; gives whether all of it stands beside them. */
+static bool place_rows(chart *c) {
     box beside = {LIST_LEFT, c->list_top, PAGE_WIDTH - PAGE_EDGE - LIST_LEFT, c->plot_bottom - c->list_top};
     int columns = columns_in(beside.w), needed = (int)ceil((double)row_count / floor(beside.h / PITCH - 1));
     size_t placed = fill_columns(0, beside, columns);
     c->height = c->plot_bottom + PAGE_EDGE;
     c->width = LIST_LEFT + fmin(needed, columns) * (column_width + GAP) - GAP + PAGE_EDGE;
     c->width = fmin(fmax(c->width, PAGE_LEAST), PAGE_WIDTH);
-    if (placed == row_count)
-        return;
-    box below = {PAGE_EDGE, c->plot_bottom + PAGE_EDGE, PAGE_WIDTH - 2 * PAGE_EDGE, 0};
-    columns = columns_in(below.w);
-    below.h = (ceil((double)(row_count - placed) / columns) + (c->remarks > 0 ? 3 : 2)) * PITCH;
-    fill_columns(placed, below, columns);
-    c->width = PAGE_WIDTH;
-    c->height = below.y + below.h + PAGE_EDGE;
+    if (placed < row_count)
+        place_below(c, placed);
+    return placed == row_count;
 }
 
-void lay_out_list(chart *c) {
+bool lay_out_list(chart *c) {
     section_count = row_count = repeated_count = 0;
     measure(c);
-    for (unsigned i = 0; i < c->panel_count; i++)
+    for (unsigned i = 0; i < c->panel_count && !c->no_list; i++)
         add_panel(c, &c->panels[i]);
-    for (uint32_t number = 1; number < NUMBERS_MOST; number++)
+    for (uint32_t number = 1; number < NUMBERS_MOST && !c->no_list; number++)
         add_blanks(c, number);
-    place_rows(c);
+    if (!c->paged)
+        return place_rows(c);
+    place_on_pages(c);
+    return false;
 }
 
 /* A panel's heading names the columns too. */
@@ -266,12 +284,28 @@ static void draw_remark(figure *f, const list_row *r) {
             (lettering){REMARK_SIZE, grey, 0, false, false}, part_of(r->text, r->length));
 }
 
-void draw_list(figure *f) {
+/* Whether a place is on a page; without pages every one is. */
+static bool is_on(const chart *c, point at, unsigned page) {
+    return !c->paged || (at.y >= page * (double)SHEET_HEIGHT && at.y < (page + 1) * (double)SHEET_HEIGHT);
+}
+
+static void draw_page(figure *f, const chart *c, unsigned page) {
     static void (*const draw[])(figure *, const list_row *) = {
         [A_HEADING] = draw_heading, [A_NAME] = draw_name, [A_REMARK] = draw_remark};
     for (size_t i = 0; i < row_count; i++)
-        if (rows[i].length > 0)
+        if (rows[i].length > 0 && is_on(c, rows[i].at, page))
             draw[rows[i].sort](f, &rows[i]);
     for (size_t i = 0; i < repeated_count; i++)
-        draw_heading(f, &repeated[i]);
+        if (is_on(c, repeated[i].at, page))
+            draw_heading(f, &repeated[i]);
+}
+
+void draw_list(figure *f, const chart *c) {
+    unsigned first = c->panel_count > 0 ? c->panel_count : 1;
+    if (!c->paged)
+        draw_page(f, c, 0);
+    for (unsigned page = first; c->paged && page < c->pages; page++) {
+        f->begin_page(f, page);
+        draw_page(f, c, page);
+    }
 }

@@ -136,12 +136,12 @@ void place_marks(chart *c, const panel *p) {
 }
 
 /* Says what numbers are, and how many marks have none. */
-static void draw_note(figure *f, const panel *p, unsigned found) {
-    char text[160] = "numbers: see the list";
+static void draw_note(figure *f, const chart *c, const panel *p, unsigned found) {
+    char text[160], left[96] = "";
     if (found < p->points)
-        snprintf(text, sizeof text,
-                 "numbers: see the list; %u marks stand too close for one, the list gives their place",
-                 p->points - found);
+        snprintf(left, sizeof left, "; %u marks stand too close for one%s", p->points - found,
+                 c->no_list ? "" : ", the list gives their place");
+    snprintf(text, sizeof text, "numbers: %s%s", c->no_list ? "places in the sheet" : "see the list", left);
     f->text(f, (point){RIGHT, p->top - 24}, (lettering){11, grey, 1, false, false}, text);
 }
 
@@ -163,5 +163,5 @@ void draw_marks(figure *f, const chart *c, const panel *p) {
         if (is_point_of(&c->items[i], p->kind) && places[i].w > 0)
             draw_label(f, p, &c->items[i], places[i], by_name);
     if (!by_name)
-        draw_note(f, p, found);
+        draw_note(f, c, p, found);
 }

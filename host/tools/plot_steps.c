@@ -44,7 +44,8 @@ steps mark_steps(figure *f, const chart *c, const panel *p) {
     steps found = {0};
     for (unsigned i = 0; i + 1 < c->count; i++) {
         const item *a = &c->items[i], *b = a + 1;
-        double percent = is_point_of(a, p->kind) && is_point_of(b, p->kind) ? step_between(p, a, b) : HUGE_VAL;
+        bool are_neighbours = b->number == a->number + 1 && is_point_of(a, p->kind) && is_point_of(b, p->kind);
+        double percent = are_neighbours ? step_between(p, a, b) : HUGE_VAL;
         if (!isfinite(percent))
             continue;
         widen_steps(&found, percent);
