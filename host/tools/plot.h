@@ -105,6 +105,9 @@ void draw_ruler(figure *f, const chart *c, double top);
 void draw_panel(figure *f, const chart *c, const panel *p);
 void label_curves(figure *f, const chart *c, const panel *p);
 
+/* plot_ticks.c: the grid, with numbers along it. */
+void draw_grid(figure *f, const chart *c, const panel *p);
+
 /* The library's value at (y, z) in its SI unit, or 0 where it is refused. */
 double value_at(const panel *p, double y, double z);
 
