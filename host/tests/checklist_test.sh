@@ -241,6 +241,25 @@ takes_digits_and_units() {
         "1 state of the sheet is not in the file, first nose/cap 1 (spelled nose%2Fcap%201)"
 }
 
+# Each unit that the documents name, for a pressure of 689732 Pa and for an entropy.
+takes_units() {
+    file 'upper-edge/on 4,689732,Pa' 'upper-edge/on 4,6.89732e8,mPa' 'upper-edge/on 4,6897.32,hPa' \
+        'upper-edge/on 4,689.732,kPa' 'upper-edge/on 4,0.689732,MPa' 'upper-edge/on 4,0.000689732,GPa' \
+        'upper-edge/on 4,6897.32,mbar' 'upper-edge/on 4,6.89732,bar' 'upper-edge/on 4/s,10510.0,J/(kg K)' \
+        'upper-edge/on 4/s,10510.0,J/kg/K' 'upper-edge/on 4/s,10.51,kJ/(kg K)' 'upper-edge/on 4/s,10.5100,kJ/kg/K' &&
+        judged 0 samples/energy-and-pressure.eas && has "Of 12 lines 12 are right" &&
+        for unit in K $(cut -d , -f 3 "$work/shown.csv" | tr ' ' _); do
+            unit=$(echo "$unit" | tr _ ' ')
+            grep -qF -e "$unit, " -e "$unit or " -e "or $unit" ../docs/CHECKLIST.md || { echo "no $unit in the document"; return 1; }
+        done
+}
+
+# The document's own example.
+takes_document() {
+    sed -n '/^    name,value,unit$/,/^    hot$/s/^    //p' ../docs/CHECKLIST.md > "$work/shown.csv" &&
+        judged 0 samples/sample.eas && has "Of 3 lines 3 are right"
+}
+
 tells_each_line() {
     file 'nose/cap 1,273.22,K' 42 hot,24000,K 7,273.2,K 42,6118.2203,K 'nose/cap 1,cold,K' 'nose/cap 1,273.2,F' &&
         judged 1 samples/sample.eas &&
@@ -424,11 +443,15 @@ expect "densities of a strip's ends that are shown" shows_fault 8 3 samples/ener
 sheet "$work/remarked.eas" name,pressure_Pa,density_kg_m3,remark 'a/b,101330,1.292,late' 'c/d,101330,1.292,'
 expect "a state with a remark that is not shown" shows_fault 9 1 "$work/remarked.eas"
 expect "values rounded, cut and in other units are right" takes_digits_and_units
+expect "every unit is read" takes_units
+expect "the document's example is right" takes_document
 expect "each wrong line is told" tells_each_line
 expect "another state's value is told" tells_whose_value
 expect "a file that is not there is told" refuses_shown "$work/none.csv" samples/sample.eas "$work/none.csv: No such file"
 expect "a sheet that is not there is told" refuses_shown "$work/shown.csv" "$work/none.eas" "$work/none.eas: No such file"
 expect "--shown without a sheet is misuse" status 2 "$build/checklist" --shown="$work/shown.csv"
+expect "a report that cannot be written is told" sh -c "'$build/checklist' > /dev/full 2> '$work/errors'
+    test \$? -eq 1 && grep -q '^checklist: standard output: No space left on device' '$work/errors'"
 expect "--help" status 0 "$build/checklist" --help
 expect "--version" status 0 "$build/checklist" --version
 expect "an unknown option is misuse" status 2 "$build/checklist" --nothing

@@ -85,21 +85,25 @@ static const tool_option options[] = {
     {0},
 };
 
+/* Judges the given sheets and the samples; gives whether all passed. */
+static bool run_all(char **paths, int count) {
+    bool passed = true;
+    print_ways();
+    for (int i = 0; i < count; i++)
+        passed = run_sheet(paths[i], strict) && passed;
+    if (count == 0)
+        printf("No sheet was given: this is about the installed calculator alone.\n\n");
+    return run_samples(folder) && passed;
+}
+
 int main(int argc, char **argv) {
     const tool checklist = {"[--strict] [SHEET]...\n--shown=FILE SHEET", help, options};
     folder = samples_folder();
     int first = read_options(&checklist, argc, argv);
-    bool passed = true;
+    bool passed;
     if (shown_file && argc - first != 1)
         misuse("--shown needs one sheet");
     print_head();
-    if (shown_file)
-        return judge_file(shown_file, argv[first]) ? DONE : REFUSED;
-    print_ways();
-    for (int i = first; i < argc; i++)
-        passed = run_sheet(argv[i], strict) && passed;
-    if (first == argc)
-        printf("No sheet was given: this is about the installed calculator alone.\n\n");
-    passed = run_samples(folder) && passed;
-    return passed ? DONE : REFUSED;
+    passed = shown_file ? judge_file(shown_file, argv[first]) : run_all(argv + first, argc - first);
+    return close_output(stdout, NULL) || !passed ? REFUSED : DONE;
 }
