@@ -25,7 +25,7 @@ begin() {
 }
 
 # writes WHAT OUT: writes the output by one of the ways that there are.
-ways='pack unpack forward back add list plot.svg plot.png plot.pdf'
+ways='pack unpack forward back add list table plot.svg plot.png plot.pdf'
 writes() {
     case $1 in
     pack) "$tool" pack -o "$2" "$work/lab.csv" ;;

@@ -43,7 +43,7 @@ for word in $(sed -n 's/^ *"\([a-z]*\) \[-o .*/\1/p' host/tools/sheet_tool.c); d
     expect "airstate-sheet(1) has $word" says man/airstate-sheet.1 "airstate-sheet $word"
 done
 for tool in sheet_tool plot checklist; do
-    for option in $(sed -n "s/.*{'.', \"\([a-z-]*\)\".*/\1/p" host/tools/$tool.c) help version; do
+    for option in $(sed -n "s/.*{'.', \"\([a-z0-9-]*\)\".*/\1/p" host/tools/$tool.c) help version; do
         expect "airstate-${tool%_tool}(1) has --$option" says "man/airstate-${tool%_tool}.1" "--$option"
     done
 done

@@ -614,9 +614,9 @@ expect "a full disk behind standard output" full_disk
 # Options.
 try="
 Try 'sheet_tool --help'."
-ends "no word" 2 "sheet_tool: pack, unpack, forward, back, add or list must be said$try" "$tool"
+ends "no word" 2 "sheet_tool: pack, unpack, forward, back, add, list or table must be said$try" "$tool"
 for word in pakc forwards adds ad lists; do
-    ends "a wrong word, $word" 2 "sheet_tool: '$word' is none of pack, unpack, forward, back, add and list$try" "$tool" $word
+    ends "a wrong word, $word" 2 "sheet_tool: '$word' is none of pack, unpack, forward, back, add, list and table$try" "$tool" $word
 done
 ends "two files" 2 "sheet_tool: one file at a time: b is too much$try" "$tool" pack a b
 ends "an unknown option" 2 "sheet_tool: unrecognized option '--sj'$try" "$tool" unpack --sj

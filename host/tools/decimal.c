@@ -100,3 +100,9 @@ void write_decimal(char out[DECIMAL_ROOM], uint64_t units, unsigned decimals) {
     if (out[length - 1] == '.')
         out[length - 1] = 0;
 }
+
+void write_value(char out[DECIMAL_ROOM], int64_t units, unsigned decimals) {
+    char text[DECIMAL_ROOM];
+    write_decimal(text, units < 0 ? 0 - (uint64_t)units : (uint64_t)units, decimals);
+    snprintf(out, DECIMAL_ROOM, "%s%.30s", units < 0 ? "-" : "", text);
+}

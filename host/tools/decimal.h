@@ -19,4 +19,7 @@ decimal_verdict read_decimal(const char *text, size_t n, unsigned decimals, uint
 enum { DECIMAL_ROOM = 32 };
 void write_decimal(char out[DECIMAL_ROOM], uint64_t units, unsigned decimals);
 
+/* The same of a number that may be below 0, as an answer's may. */
+void write_value(char out[DECIMAL_ROOM], int64_t units, unsigned decimals);
+
 #endif

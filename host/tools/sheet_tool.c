@@ -1,4 +1,4 @@
-/* sheet_tool: a text of states to a sheet and back, a sheet from one version to the other, a state more, a listing. */
+/* sheet_tool: a text of states to a sheet and back, and what is done with a sheet. */
 #include <string.h>
 
 #include "add.h"
@@ -6,13 +6,16 @@
 #include "list.h"
 #include "options.h"
 #include "pack.h"
+#include "table.h"
 
-static const char *output, *si, *spelled;
+static const char *output, *si, *spelled, *form, *names;
 
 static const tool_option options[] = {
     {'o', "output", "FILE", "write to FILE instead of standard output", &output},
     {'s', "si", NULL, "unpack: write pressure_Pa, energy_J_kg and density_kg_m3", &si},
     {'p', "spelled", NULL, "unpack: write every name in percent form", &spelled},
+    {'f', "format", "FORM", "table: text, which is meant where none is said, csv or json", &form},
+    {'n', "names", "RUNLIST", "table: the states of these spelled names, one a line, in this order", &names},
     {0},
 };
 
@@ -22,13 +25,15 @@ static const tool description = {
     "forward [-o FILE.eas] [FILE.eas]\n"
     "back [-o FILE.eas] [FILE.eas]\n"
     "add [-o FILE.eas] NAME KIND FIRST DENSITY [FILE.eas]\n"
-    "list [-o FILE.txt] [FILE.eas]",
+    "list [-o FILE.txt] [FILE.eas]\n"
+    "table [-o FILE] [--format=FORM] [--names=RUNLIST] [FILE.eas]",
     "Packs a CSV text of states into a sheet, writes a sheet as text, or converts a sheet:\n"
     "forward writes one of version 1 in version 2 with empty remarks, back writes one of\n"
     "version 2 without remarks in version 1, for copies before 2.4.0, and tells the states\n"
     "whose kind some of these do not know. add puts one state behind those of a sheet of\n"
     "version 2: NAME with %2F for / and the like, KIND as the column kind has it, FIRST in Pa\n"
-    "or J/kg and DENSITY in kg/m³. list writes the listing line of every state.\n"
+    "or J/kg and DENSITY in kg/m³. list writes the listing line of every state,\n"
+    "table what is given, the answer in SI units or why there is none, and the remark.\n"
     "A file of - or none is standard input. The text's first row names its columns:\n"
     "  name            the name as it is, or\n"
     "  spelled         the name with %2F for / and the like\n"
@@ -44,9 +49,9 @@ static const tool description = {
     options,
 };
 
-enum { PACK, UNPACK, FORWARD, BACK, ADD, LIST, VERBS, STATE_OPERANDS = 4 };
+enum { PACK, UNPACK, FORWARD, BACK, ADD, LIST, TABLE, VERBS, STATE_OPERANDS = 4 };
 
-static const char *const verbs[VERBS] = {"pack", "unpack", "forward", "back", "add", "list"};
+static const char *const verbs[VERBS] = {"pack", "unpack", "forward", "back", "add", "list", "table"};
 
 /* Does what the verb says with a file and, for add, the operands before it. */
 static int run(int verb, char **operands, const char *input) {
@@ -61,21 +66,25 @@ static int run(int verb, char **operands, const char *input) {
         return convert(input, output, eas_back);
     case ADD:
         return add(input, output, &(state_words){operands[0], operands[1], operands[2], operands[3]});
-    default:
+    case LIST:
         return list(input, output);
+    default:
+        return table(input, output, form, names);
     }
 }
 
 int main(int argc, char **argv) {
     int at = read_options(&description, argc, argv), verb = 0;
     if (at == argc)
-        misuse("pack, unpack, forward, back, add or list must be said");
+        misuse("pack, unpack, forward, back, add, list or table must be said");
     while (verb < VERBS && strcmp(argv[at], verbs[verb]) != 0)
         verb++;
     if (verb == VERBS)
-        misuse("'%s' is none of pack, unpack, forward, back, add and list", argv[at]);
+        misuse("'%s' is none of pack, unpack, forward, back, add, list and table", argv[at]);
     if ((si || spelled) && verb != UNPACK)
         misuse("--si and --spelled belong to unpack");
+    if ((form || names) && verb != TABLE)
+        misuse("--format and --names belong to table");
     int file = at + 1 + (verb == ADD ? STATE_OPERANDS : 0);
     if (file > argc)
         misuse("add takes a name, a kind, a first value and a density");

@@ -1,13 +1,12 @@
-#include <csv.h>
 #include <inttypes.h>
 #include <stdlib.h>
-#include <string.h>
 
 #include "common.h"
 #include "decimal.h"
 #include "kinds.h"
 #include "options.h"
 #include "pack.h"
+#include "quoting.h"
 #include "utf8.h"
 
 /* What columns a text has. */
@@ -47,17 +46,6 @@ static void write_heading(FILE *out, layout l) {
     fputc('\n', out);
 }
 
-/* Quoted only where it must be: a quote, a delimiter, a space at an end, or a # at the start. */
-static void write_text(FILE *out, const uint8_t *text, size_t n) {
-    bool plain = n == 0 || (text[0] != ' ' && text[n - 1] != ' ' && text[0] != '#');
-    for (size_t i = 0; i < n; i++)
-        plain = plain && !strchr(",;\"", text[i]);
-    if (plain)
-        fwrite(text, 1, n, out);
-    else
-        csv_fwrite(out, text, n);
-}
-
 /* A kind that the tool does not know cannot stand in an accepted sheet that the library of the same version took. */
 static void write_values(FILE *out, const state *s, layout l) {
     const kind_row *kind = kind_of(s->kind);
@@ -81,7 +69,7 @@ static void write_remark(FILE *out, const state *s, layout l) {
     if (l.remarks)
         fputc(',', out);
     if (l.remarks && text)
-        write_text(out, s->remark, s->remark_length);
+        write_field(out, s->remark, s->remark_length);
     if (l.spelled_remarks)
         fputc(',', out);
     if (!text) {
@@ -94,7 +82,7 @@ static void write_remark(FILE *out, const state *s, layout l) {
 static void write_state(FILE *out, const state *s, layout l) {
     bool raw = is_raw(s, l);
     if (raw)
-        write_text(out, s->name, s->length);
+        write_field(out, s->name, s->length);
     if (l.names && l.spelled)
         fputc(',', out);
     if (!raw)
