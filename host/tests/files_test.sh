@@ -25,10 +25,10 @@ begin() {
 }
 
 # writes WHAT OUT: writes the output by one of the ways that there are.
-ways='pack unpack forward back add list table plot.svg plot.png plot.pdf'
+ways='pack unpack forward back add list table eval plot.svg plot.png plot.pdf'
 writes() {
     case $1 in
-    pack) "$tool" pack -o "$2" "$work/lab.csv" ;;
+    pack | eval) "$tool" $1 -o "$2" "$work/lab.csv" ;;
     forward) "$tool" forward -o "$2" "$work/one.eas" ;;
     add) "$tool" add -o "$2" new 1 1 1 "$work/two.eas" ;;
     plot*) "$plot" "$drawn" "$2" ;;

@@ -16,18 +16,25 @@ packs() {
         tail -n +2 "$work/back" > "$work/lines" && printf "$1" | cmp - "$work/lines"
 }
 
-# right WHAT TEXT LINES: the text is packed without a message; unpacked it has these lines.
+# told: what was said before the last line, which has the states, the bytes and how many will be refused.
+told() {
+    tail -n 1 "$work/said" | grep -q "^sheet_tool: $work/text.csv: [0-9]* states\{0,1\}, [0-9]* of 65,536 bytes used.*; .* refused" &&
+        head -n -1 "$work/said"
+}
+
+# right WHAT TEXT LINES: the text is packed, and nothing but its states is told; unpacked it has these lines.
 right() {
     text "$2"
     expect "$1" packs "$3"
-    expect "$1: no message" test ! -s "$work/said"
+    told > "$work/notes"
+    expect "$1: no message" test $? -eq 0 -a ! -s "$work/notes"
 }
 
 # noted WHAT TEXT LINES NOTE: the text is packed with this note.
 noted() {
     text "$2"
     expect "$1" packs "$3"
-    expect "$1: the note" test "$(cat "$work/said")" = "sheet_tool: $work/text.csv: $4"
+    expect "$1: the note" test "$(told)" = "sheet_tool: $work/text.csv: $4"
 }
 
 # wrong WHAT TEXT MESSAGE: the text is refused with this message and nothing is written.
@@ -66,7 +73,11 @@ noted "no states" $si '' 'note: there are no states below the heading'
 
 # Names.
 right "a slash and spaces" $si'nose/cap 1,1,1\n' 'nose%%2Fcap%%201,1,1000000,100000000000\n'
-right "spaces around a name do not count" $si'  a  ,1,1\n' 'a,1,1000000,100000000000\n'
+right "spaces around a name belong to it" $si'  a  ,1,1\n\tb\t,1,1\na,1,1\n' \
+    '%%20%%20a%%20%%20,1,1000000,100000000000\n%%09b%%09,1,1000000,100000000000\na,1,1000000,100000000000\n'
+right "spaces around a quoted name do not" $si' "a, b" ,1,1\n  "c""d"\t,1,1\n' \
+    'a%%2C%%20b,1,1000000,100000000000\nc%%22d,1,1000000,100000000000\n'
+right "spaces around numbers, headings and kinds" ' name , kind, first ,density\na, 1 ,  2,3  \n' 'a,1,2,3\n'
 right "quoted spaces do" $si'" a ",1,1\n' '%%20a%%20,1,1000000,100000000000\n'
 right "UTF-8" $si'D\303\274se,1,1\n' 'D%%C3%%BCse,1,1000000,100000000000\n'
 right "bytes that are no UTF-8" $si'D\374se,1,1\n' 'D%%FCse,1,1000000,100000000000\n'
@@ -118,7 +129,7 @@ right "a remark in the first column" 'Remark,name,'$whole'"#1, ""x""",a,1,2,3\n'
 right "a remark that begins with #, before spelled names" 'remark,spelled,'$whole'#1,a,1,2,3\n#2,b,1,2,3\n' \
     'a,1,2,3,"#1"\nb,1,2,3,"#2"\n'
 right "comments where a remark comes last" 'spelled,'${whole%\\n}',remark\n# x\na,1,2,3,#1\n' 'a,1,2,3,"#1"\n'
-right "spaces around a remark do not count" $remarked'a,1,2,3,  x y  \n' 'a,1,2,3,x y\n'
+right "spaces around a remark belong to it" $remarked'a,1,2,3,  x y  \n' 'a,1,2,3,"  x y  "\n'
 right "quoted ones do" $remarked'a,1,2,3," x "\n' 'a,1,2,3," x "\n'
 right "semicolons in a remark" $remarked'a,1,2,3,x;y\n' 'a,1,2,3,"x;y"\n'
 right "a remark in UTF-8" $remarked'a,1,2,3,D\303\274se\n' 'a,1,2,3,D\303\274se\n'
@@ -152,9 +163,10 @@ wrong "empty" '' 'empty: a heading and states are wanted'
 wrong "blank" '\n \n# x\n' 'empty: a heading and states are wanted'
 wrong "UTF-16" '\377\376n\000' 'the text is UTF-16; save it as UTF-8'
 wrong "no heading" 'a,1,2,3\n' \
-    "line 1: no heading: the first row needs a column 'name', or 'spelled' for names in percent form"
+    "line 1: no heading: the first row needs a column 'name', or 'spelled' for names in percent form; found: \
+'a', '1', '2', '3'"
 wrong "no values" 'name,pressure_kPa\na,1\n' "line 1: no columns for a state: pressure_Pa with density_kg_m3, or \
-energy_J_kg with density_kg_m3, or kind, first and density in whole units"
+energy_J_kg with density_kg_m3, or kind, first and density in whole units; found: 'name', 'pressure_kPa'"
 wrong "a heading twice" 'name,name,pressure_Pa,density_kg_m3\n' "line 1: the heading 'name' stands twice"
 wrong "an open quote" $si'a,1,1\n"b,1,1\n' 'line 3: a quoted field has no end'
 wrong "a quote inside a field" $si'a"b,1,1\n' 'line 2: no CSV: error parsing data while strict checking enabled'
@@ -194,8 +206,8 @@ wrong "the kind's value is missing" 'name,kind,pressure_Pa,density_kg_m3\na,2,1,
 wrong "the energy of a wanted pressure is missing" 'name,kind,pressure_Pa,density_kg_m3\na,pressure,1,1\n' \
     'line 2: the energy is missing'
 wrong "too fine an energy" 'name,kind,energy_J_kg,density_kg_m3\na,3,1.0001,1\n' \
-    "line 2: energy_J_kg: '1.0001' has more digits than the unit of 1e-3 J/kg holds"
-wrong "a density twice" 'name,pressure_Pa,density,density_kg_m3\na,1,1,1\n' \
+    "line 2: energy_J_kg: '1.0001' has more digits than the unit of 1e-3 J/kg holds; --round rounds to it"
+wrong "a density twice" 'name,kind,first,density,density_kg_m3\na,1,1,1,1\n' \
     'line 2: the density is given twice, in density_kg_m3 and in density'
 decimal='is no decimal number from 0 up, with a point before its decimals'
 wrong "a word" $si'a,x,1\n' "line 2: pressure_Pa: 'x' $decimal"
@@ -208,11 +220,11 @@ wrong "a point alone" $si'a,.,1\n' "line 2: pressure_Pa: '.' $decimal"
 wrong "a hexadecimal number" $si'a,0x10,1\n' "line 2: pressure_Pa: '0x10' $decimal"
 wrong "a number that is none" $si'a,nan,1\n' "line 2: pressure_Pa: 'nan' $decimal"
 wrong "too fine a pressure" $si'a,1.0000001,1\n' \
-    "line 2: pressure_Pa: '1.0000001' has more digits than the unit of 1e-6 Pa holds"
+    "line 2: pressure_Pa: '1.0000001' has more digits than the unit of 1e-6 Pa holds; --round rounds to it"
 wrong "too fine a density" $si'a,1,1e-12\n' \
-    "line 2: density_kg_m3: '1e-12' has more digits than the unit of 1e-11 kg/m³ holds"
+    "line 2: density_kg_m3: '1e-12' has more digits than the unit of 1e-11 kg/m³ holds; --round rounds to it"
 wrong "a fraction of a unit" 'name,'$whole'a,1,2.5,3\n' \
-    "line 2: first: '2.5' has more digits than the unit of 1e-6 Pa holds"
+    "line 2: first: '2.5' has more digits than the unit of 1e-6 Pa holds; --round rounds to it"
 wrong "too large" 'name,'$whole'a,1,18446744073709551616,3\n' \
     "line 2: first: '18446744073709551616' is over 18446744073709551615"
 wrong "far too large" $si'a,1e999999999999999999999,1\n' \
@@ -229,7 +241,8 @@ fills() {
 expect "the fullest sheet" fills
 echo 3978,1,1,1 >> "$work/text.csv"
 too_long="refusal 1: the sheet is, or would become, over 65,536 bytes"
-ends "one state more" 1 "sheet_tool: standard input: line 2980: $too_long" "$tool" pack < "$work/text.csv"
+ends "one state more" 1 "sheet_tool: standard input: line 2980: $too_long: the first 2978 of 2979 states fit; --split writes more than one sheet" \
+    "$tool" pack < "$work/text.csv"
 
 # With remarks every record has a byte more: 2,849 of 23 bytes, and a remark of 2.
 fills_late() {
@@ -240,16 +253,18 @@ fills_late() {
 expect "the fullest sheet with a remark, in its last row" fills_late
 sed '$s/$/z/' "$work/text.csv" > "$work/longer.csv"
 ends "a byte more in its remark" 1 \
-    "sheet_tool: standard input: line 2850: $too_long; this first remark makes each state a byte longer" \
+    "sheet_tool: standard input: line 2850: $too_long; this first remark makes each state a byte longer\
+: the first 2848 of 2849 states fit; --split writes more than one sheet" \
     "$tool" pack < "$work/longer.csv"
 sed -e '2s/$/x/' -e '$s/y$//' "$work/text.csv" > "$work/moved.csv"
 expect "the fullest with two remarks" "$tool" pack -o "$work/full.eas" "$work/moved.csv"
 sed '$s/$/z/' "$work/moved.csv" > "$work/longer.csv"
-ends "a byte more in the last of two" 1 "sheet_tool: standard input: line 2850: $too_long" \
+ends "a byte more in the last of two" 1 "sheet_tool: standard input: line 2850: $too_long: the first 2848 of 2849 states fit; --split writes more than one sheet" \
     "$tool" pack < "$work/longer.csv"
 { echo name,kind,first,density,remark; seq 1000 3977 | sed 's/$/,1,1,1,/'; } > "$work/text.csv"
 ends "the fullest without remarks has no room for one" 1 \
-    "sheet_tool: standard input: line 2979: $too_long; this first remark makes each state a byte longer" \
+    "sheet_tool: standard input: line 2979: $too_long; this first remark makes each state a byte longer\
+: the first 2977 of 2978 states fit; --split writes more than one sheet" \
     sh -c "sed '\$s/\$/x/' '$work/text.csv' | '$tool' pack"
 fills_by_remarks() {
     { echo name,kind,first,density,remark; seq 10 245 | sed "s/$/,1,1,1,$most/"; } > "$work/text.csv"
@@ -259,7 +274,8 @@ fills_by_remarks() {
 }
 expect "the most remarks of 255 bytes" fills_by_remarks
 echo "246,1,1,1,$most" >> "$work/text.csv"
-ends "one state more with its remark" 1 "sheet_tool: standard input: line 238: $too_long" "$tool" pack < "$work/text.csv"
+ends "one state more with its remark" 1 "sheet_tool: standard input: line 238: $too_long: the first 236 of 237 states fit; --split writes more than one sheet" \
+    "$tool" pack < "$work/text.csv"
 
 # Sheets that are none.
 sheet() {
@@ -393,7 +409,8 @@ told_kinds() {
 }
 # kinds_3 NAMES: a sheet with a state of kind 3 for each spelled name, one a line, between two of other kinds.
 kinds_3() {
-    { printf 'spelled,kind,first,density\nx,1,1,1\n'; sed 's/$/,3,1,1/'; echo y,2,1,1; } | "$tool" pack -o "$work/three.eas"
+    { printf 'spelled,kind,first,density\nx,1,1,1\n'; sed 's/$/,3,1,1/'; echo y,2,1,1; } | "$tool" pack -o "$work/three.eas" \
+        2> "$work/said"
 }
 told_kinds "no later kind" samples/sample.eas ''
 echo a%2Fb%20%00 | kinds_3
@@ -515,19 +532,21 @@ printf "$two$record$remark"'\003x/y'"$state" > "$work/wrong.eas"
 spelling="refusal 7: a byte or a percent form of the spelled name is wrong"
 length="refusal 8: the name has no bytes or over 40"
 for name in x/y a%2 a%zz % %% a%C3ü b:; do
-    stays "adding the name $name" "add $name 1 1 1" "$spelling: '$name'"
+    stays "adding the name $name" "add $name 1 1 1" "$spelling: '$name'; --name takes a name as it is"
 done
-ends "adding a name with a space" 1 "sheet_tool: $work/wrong.eas: $spelling: 'b c'" \
+ends "adding a name with a space" 1 "sheet_tool: $work/wrong.eas: $spelling: 'b c'; --name takes a name as it is" \
     "$tool" add -o "$work/kept" 'b c' 1 1 1 "$work/wrong.eas"
 ends "adding no name" 1 "sheet_tool: $work/wrong.eas: $length: ''" "$tool" add -o "$work/kept" '' 1 1 1 "$work/wrong.eas"
 stays "adding a name of 41 bytes" "add ${forty}x 1 1 1" "$length: '${forty}x'"
-stays "a wrong spelling before its length" "add ${forty}x% 1 1 1" "$spelling: '${forty}x%'"
+stays "a wrong spelling before its length" "add ${forty}x% 1 1 1" "$spelling: '${forty}x%'; --name takes a name as it is"
 stays "adding a name that is there" "add a 1 1 1" "$seen, in record 1"
 stays "adding a name that is there, spelled otherwise" "add %61 2 1 1" "$seen, in record 1"
 stays "adding the last name again" "add x%2fy 3 1 1" "$seen, in record 2"
 cp samples/sample.eas "$work/wrong.eas"
-stays "adding to version 1" "add n 1 1 1" "$other_version: it is 1, and forward writes it in version 2"
-stays "adding to version 1 before the name" "add hot% 1 1 1" "$other_version: it is 1, and forward writes it in version 2"
+to_version_2="$other_version: it is 1; add --forward writes it in version 2, and so does: sheet_tool forward -o $work/wrong.eas \
+$work/wrong.eas"
+stays "adding to version 1" "add n 1 1 1" "$to_version_2"
+stays "adding to version 1 before the name" "add hot% 1 1 1" "$to_version_2"
 # untyped WHAT MESSAGE WORDS: what is typed is told, whatever the sheet.
 untyped() {
     ends "adding $1" 1 "sheet_tool: $2" "$tool" add -o "$work/kept" $3 "$work/none.eas"
@@ -561,7 +580,7 @@ expect "a name of two bytes fills the sheet" grows_full 13 3131 zz
 overfull 14 3131 "a byte too much for a name of two" zz 65537
 overfull 13 3132 "adding to the fullest sheet" zz 65557
 stays "a name that is there, before the sheet is full" "add %41 1 1 1" "$seen, in record 66"
-stays "a wrong name, before the sheet is full" "add z% 1 1 1" "$spelling: 'z%'"
+stays "a wrong name, before the sheet is full" "add z% 1 1 1" "$spelling: 'z%'; --name takes a name as it is"
 
 # Listing. lists SHEET LINES: the sheet at hand has this listing.
 lists() {
@@ -614,9 +633,9 @@ expect "a full disk behind standard output" full_disk
 # Options.
 try="
 Try 'sheet_tool --help'."
-ends "no word" 2 "sheet_tool: pack, unpack, forward, back, add, list or table must be said$try" "$tool"
+ends "no word" 2 "sheet_tool: pack, unpack, forward, back, add, list, table or eval must be said$try" "$tool"
 for word in pakc forwards adds ad lists; do
-    ends "a wrong word, $word" 2 "sheet_tool: '$word' is none of pack, unpack, forward, back, add, list and table$try" "$tool" $word
+    ends "a wrong word, $word" 2 "sheet_tool: '$word' is none of pack, unpack, forward, back, add, list, table and eval$try" "$tool" $word
 done
 ends "two files" 2 "sheet_tool: one file at a time: b is too much$try" "$tool" pack a b
 ends "an unknown option" 2 "sheet_tool: unrecognized option '--sj'$try" "$tool" unpack --sj

@@ -21,6 +21,9 @@ FILE *open_output(const char *path);
  * file stays. 0 is success. */
 int close_output(FILE *file, const char *path);
 
+/* Ends an output that is not to be: the old file stays. What went to no regular file is there. */
+void drop_output(FILE *file);
+
 /* How messages call an input and an output. */
 const char *input_name(const char *path);
 const char *output_name(const char *path);

@@ -1,43 +1,52 @@
 #include "decimal.h"
 
 #include <inttypes.h>
-#include <stdbool.h>
 #include <stdio.h>
 #include <string.h>
 
-/* No exponent that matters comes near this; one that is larger is held to it. */
-enum { EXPONENT_MOST = 1000000 };
+/* No exponent that matters comes near this; one that is larger is held to it. Digits behind so many are only looked at
+ * for whether they are zeros: units are fewer than 2^64, so that these come behind the point at which units end. */
+enum { EXPONENT_MOST = 1000000, DIGITS_MOST = 22 };
 
-/* What was read: digits·10^exponent, where the digits did not grow past 2^64. */
+__extension__ typedef unsigned __int128 wide;
+
+static const wide MOST = (wide)1 << 126;
+
+/* What was read: digits·10^exponent, and whether more than zeros followed. */
 typedef struct {
-    uint64_t digits;
+    wide digits;
+    int count;
     long exponent;
-    bool too_large;
+    bool goes_on;
 } number;
 
 static bool is_digit(char c) {
     return c >= '0' && c <= '9';
 }
 
-/* Multiplies by ten and adds; past 2^64 the number is marked. */
 static void push_digit(number *x, unsigned digit) {
-    if (x->digits > (UINT64_MAX - digit) / 10)
-        x->too_large = true;
-    else
-        x->digits = 10 * x->digits + digit;
+    if (x->count == DIGITS_MOST) {
+        x->exponent++;
+        x->goes_on |= digit > 0;
+        return;
+    }
+    x->digits = 10 * x->digits + digit;
+    x->count += x->digits > 0;
 }
 
 /* Reads the digits around a point. Zeros are held back until another digit follows, so that 1.2000 is as fine as 1.2.
  * Returns how many bytes were read, 0 where there is no digit. */
-static size_t read_mantissa(const char *text, size_t n, number *x) {
+static size_t read_mantissa(const char *text, size_t n, bool comma, number *x) {
     size_t at = 0, digits = 0;
     long zeros = 0;
     bool after_point = false;
-    for (; at < n && (is_digit(text[at]) || (text[at] == '.' && !after_point)); at++) {
-        if (text[at] == '.') {
-            after_point = true;
+    for (; at < n; at++) {
+        bool is_point = !after_point && (text[at] == '.' || (comma && text[at] == ','));
+        if (!is_point && !is_digit(text[at]))
+            break;
+        after_point |= is_point;
+        if (is_point)
             continue;
-        }
         digits++;
         x->exponent -= after_point;
         if (text[at] == '0') {
@@ -72,22 +81,46 @@ static bool read_exponent(const char *text, size_t n, number *x) {
     return true;
 }
 
-decimal_verdict read_decimal(const char *text, size_t n, unsigned decimals, uint64_t *units) {
+/* Whether a number that is cut behind its digits could be nearer to either of two units: its last digit is worth `step`
+ * in `bottom`ths of a unit, of which it has `rest` behind its whole ones. */
+static bool is_open(wide rest, wide step, wide bottom) {
+    return 2 * rest < bottom && 2 * (rest + step) > bottom;
+}
+
+/* Makes whole units of a number that is not 0. */
+static decimal_verdict count_units(const number *x, const number_form *form, uint64_t *units) {
+    wide top = x->digits * form->over, bottom = form->under;
+    long shift = x->exponent + (long)form->decimals;
+    for (; shift > 0 && top <= MOST / 10; shift--)
+        top *= 10;
+    for (; shift < 0 && bottom <= MOST / 10; shift++)
+        bottom *= 10;
+    wide whole = shift < 0 ? 0 : top / bottom, rest = shift < 0 ? 0 : top % bottom;
+    if (shift > 0 || whole > UINT64_MAX)
+        return DECIMAL_TOO_LARGE;
+    *units = (uint64_t)whole;
+    if (rest == 0 && shift == 0 && !x->goes_on)
+        return DECIMAL_READ;
+    if (!form->round || (x->goes_on && is_open(rest, form->over, bottom)))
+        return DECIMAL_TOO_FINE;
+    if (2 * rest < bottom)
+        return DECIMAL_ROUNDED;
+    *units += 1;
+    return *units == 0 ? DECIMAL_TOO_LARGE : DECIMAL_ROUNDED;
+}
+
+decimal_verdict read_number(const char *text, size_t n, const number_form *form, uint64_t *units) {
     number x = {0};
-    size_t at = n > 0 && text[0] == '+' ? 1 : 0, length = read_mantissa(text + at, n - at, &x);
+    size_t at = n > 0 && text[0] == '+' ? 1 : 0, length = read_mantissa(text + at, n - at, form->comma, &x);
     at += length;
     if (length == 0 || (at < n && !read_exponent(text + at, n - at, &x)))
         return DECIMAL_WRONG;
     *units = 0;
-    if (x.digits == 0 && !x.too_large)
-        return DECIMAL_READ;
-    x.exponent += (long)decimals;
-    if (x.exponent < 0)
-        return DECIMAL_TOO_FINE;
-    for (; x.exponent > 0 && !x.too_large; x.exponent--)
-        push_digit(&x, 0);
-    *units = x.digits;
-    return x.too_large ? DECIMAL_TOO_LARGE : DECIMAL_READ;
+    return x.digits == 0 ? DECIMAL_READ : count_units(&x, form, units);
+}
+
+decimal_verdict read_decimal(const char *text, size_t n, unsigned decimals, uint64_t *units) {
+    return read_number(text, n, &(number_form){.decimals = decimals, .over = 1, .under = 1}, units);
 }
 
 void write_decimal(char out[DECIMAL_ROOM], uint64_t units, unsigned decimals) {

@@ -191,6 +191,13 @@ int close_output(FILE *file, const char *path) {
     return fault ? refuse_file(output_name(path)) : DONE;
 }
 
+void drop_output(FILE *file) {
+    if (file != stdout)
+        fclose(file);
+    if (begun)
+        remove_temporary();
+}
+
 int write_output(const char *path, const void *bytes, size_t n) {
     FILE *file = open_output(path);
     if (!file)

@@ -6,16 +6,16 @@
 
 #include "utf8.h"
 
-static bool is_plain(const char *text, size_t n) {
+static bool is_plain(char delimiter, const char *text, size_t n) {
     static const char special[] = {',', ';', '\t', '"', '\r', '\n', '\0'};
     for (size_t i = 0; i < sizeof special; i++)
-        if (memchr(text, special[i], n))
+        if ((special[i] != ',' || delimiter == ',') && memchr(text, special[i], n))
             return false;
     return n == 0 || (text[0] != ' ' && text[n - 1] != ' ' && text[0] != '#');
 }
 
-void write_field(FILE *out, const void *text, size_t n) {
-    if (is_plain(text, n))
+void write_field(FILE *out, char delimiter, const void *text, size_t n) {
+    if (is_plain(delimiter, text, n))
         fwrite(text, 1, n, out);
     else
         csv_fwrite(out, text, n);

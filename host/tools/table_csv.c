@@ -12,10 +12,10 @@ static const char heading[] = "number,name,spelled,kind,pressure_Pa,energy_J_kg,
 static void write_name(FILE *out, const table_row *r) {
     bool text = r->number && is_text(r->s.name, r->s.length);
     if (text)
-        write_field(out, r->s.name, r->s.length);
+        write_field(out, ',', r->s.name, r->s.length);
     fputc(',', out);
     if (!r->number)
-        write_field(out, r->asked.text, r->asked.length);
+        write_field(out, ',', r->asked.text, r->asked.length);
     else if (!text)
         fputs(r->s.spelled, out);
 }
@@ -33,9 +33,9 @@ static void write_values(FILE *out, const table_row *r) {
 
 static void write_answer(FILE *out, const table_row *r) {
     char text[DECIMAL_ROOM];
-    if (r->refusal) {
+    if (r->refusal || !r->kind) {
         fprintf(out, ",,,%u,", r->refusal);
-        write_field(out, r->reason, strlen(r->reason));
+        write_field(out, ',', r->reason, strlen(r->reason));
         return;
     }
     write_value(text, r->value, r->kind->wanted->decimals);
@@ -47,7 +47,7 @@ static void write_remark(FILE *out, const state *s) {
     bool text = is_text(s->remark, s->remark_length);
     fputc(',', out);
     if (text && s->remark_length > 0)
-        write_field(out, s->remark, s->remark_length);
+        write_field(out, ',', s->remark, s->remark_length);
     if (!text)
         spell_remark(s, spelled);
     fprintf(out, ",%s\n", spelled);

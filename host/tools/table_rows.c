@@ -61,10 +61,10 @@ static void explain(table_row *r) {
     char *rest = r->reason + used;
     size_t room = sizeof r->reason - (size_t)used;
     field f = r->asked;
-    uint8_t name[NAME_MOST];
     if (r->refusal == EAS_NAME_ABSENT)
         return;
     if (f.length > 0 && f.text[f.length - 1] == '\r') {
+        uint8_t name[NAME_MOST];
         used = snprintf(rest, room, ": it ends with a carriage return: the list has line ends CR LF");
         rest += used;
         room -= (size_t)used;

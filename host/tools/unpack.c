@@ -1,9 +1,8 @@
 #include <inttypes.h>
 #include <stdlib.h>
 
+#include "columns.h"
 #include "common.h"
-#include "decimal.h"
-#include "kinds.h"
 #include "options.h"
 #include "pack.h"
 #include "quoting.h"
@@ -69,7 +68,7 @@ static void write_remark(FILE *out, const state *s, layout l) {
     if (l.remarks)
         fputc(',', out);
     if (l.remarks && text)
-        write_field(out, s->remark, s->remark_length);
+        write_field(out, ',', s->remark, s->remark_length);
     if (l.spelled_remarks)
         fputc(',', out);
     if (!text) {
@@ -82,7 +81,7 @@ static void write_remark(FILE *out, const state *s, layout l) {
 static void write_state(FILE *out, const state *s, layout l) {
     bool raw = is_raw(s, l);
     if (raw)
-        write_field(out, s->name, s->length);
+        write_field(out, ',', s->name, s->length);
     if (l.names && l.spelled)
         fputc(',', out);
     if (!raw)
