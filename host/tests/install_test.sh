@@ -94,6 +94,14 @@ try_tree() {
     expect "$1: links of the documents" python3 tests/documents.py "$tree/share/doc/airstate"
 }
 
+# Every command of the documents, from what is unpacked.
+commands_run() {
+    documents=$1/share/doc/airstate manuals=$1/share/man/man1
+    python3 host/tests/commands.py "$1" "$documents/README.md" "$documents/docs/FORMAT.md" "$documents/docs/DECISIONS.md" \
+        "$documents/host/README.md" "$manuals/airstate-sheet.1" "$manuals/airstate-listing.1" | tee "$work/commands" &&
+        grep -q '^commands: [1-9][0-9]* checks, 0 failures$' "$work/commands"
+}
+
 left_over() {
     find "$installed" -type f -o -type l
     test -z "$(find "$installed" -type f -o -type l)"
@@ -109,6 +117,8 @@ expect "uninstall" made uninstall PREFIX="$installed"
 expect "nothing is left over" left_over
 expect "a release is made and unpacked" unpacks
 try_tree release "$(echo "$work"/elsewhere/airstate-*)"
+expect "the commands of the documents" commands_run "$(echo "$work"/elsewhere/airstate-*)"
+tail -n 1 "$work/commands"
 no_prover() {
     make -s run 2> "$work/message"
     test $? -ne 0 && head -n 1 "$work/message" | grep '^rt, .* is not on the path'

@@ -410,7 +410,7 @@ told_kinds() {
 # kinds_3 NAMES: a sheet with a state of kind 3 for each spelled name, one a line, between two of other kinds.
 kinds_3() {
     { printf 'spelled,kind,first,density\nx,1,1,1\n'; sed 's/$/,3,1,1/'; echo y,2,1,1; } | "$tool" pack -o "$work/three.eas" \
-        2> "$work/said"
+        2> "$work/summary"
 }
 told_kinds "no later kind" samples/sample.eas ''
 echo a%2Fb%20%00 | kinds_3
@@ -436,7 +436,7 @@ longest() {
         for (i = 0; i < states; i++) {
             first = i < 256 ? "" : sprintf("%%%02X", i / 256)
             printf "%s%%%02X%s,1,1,1\n", first, i % 256, i < states - more ? "" : "x"
-        } }'; } | "$tool" pack -o "$work/wrong.eas"
+        } }'; } | "$tool" pack -o "$work/wrong.eas" 2> "$work/summary"
 }
 goes_forward() {
     longest "$1" && there_and_back "$work/wrong.eas" && test "$(wc -c < "$work/two.eas")" -eq "$2" &&
