@@ -32,7 +32,7 @@ static bool run_group(const char *title, report r, const char *const *paths, int
     tally tallies[TALLIES] = {0};
     printf("%s\n", title);
     for (int i = 0; i < count; i++) {
-        char reason[REASON_ROOM];
+        char reason[REFUSAL_ROOM];
         const asked_sheet *sheet = ask_sheet(paths[i], reason);
         if (sheet)
             judge_sheet(sheet, tallies);

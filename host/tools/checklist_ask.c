@@ -203,31 +203,31 @@ static void find_truths(asked_sheet *sheet) {
 }
 
 /* Reads a file; gives why that cannot be done. */
-static bool read_file(asked_sheet *sheet, char reason[REASON_ROOM]) {
+static bool read_file(asked_sheet *sheet, char reason[REFUSAL_ROOM]) {
     FILE *file = is_standard(sheet->path) ? stdin : fopen(sheet->path, "rb");
     sheet->n = file ? fread(sheet->bytes, 1, SHEET_MOST + 1, file) : 0;
     bool is_read = file && !ferror(file);
     if (!is_read)
-        snprintf(reason, REASON_ROOM, "%s", strerror(errno));
+        snprintf(reason, REFUSAL_ROOM, "%s", strerror(errno));
     if (file && file != stdin)
         fclose(file);
     return is_read;
 }
 
 /* Reads the sheet; gives why that cannot be done, or why it is refused as a whole. */
-static bool load(asked_sheet *sheet, char reason[REASON_ROOM]) {
+static bool load(asked_sheet *sheet, char reason[REFUSAL_ROOM]) {
     if (!read_file(sheet, reason))
         return false;
     sheet_parse(&sheet->parsed, sheet->bytes, sheet->n);
     uint32_t number = eas_check(sheet->bytes, sheet->n), due = sheet->parsed.number;
     if (number != due)
-        snprintf(reason, REASON_ROOM, "the library says \"%s\", right is \"%s\"", eas_reason(number), eas_reason(due));
+        snprintf(reason, REFUSAL_ROOM, "the library says \"%s\", right is \"%s\"", eas_reason(number), eas_reason(due));
     else if (number)
         tell_refusal(reason, sheet->bytes, sheet->n, number);
     return !number && !due;
 }
 
-asked_sheet *ask_sheet(const char *path, char reason[REASON_ROOM]) {
+asked_sheet *ask_sheet(const char *path, char reason[REFUSAL_ROOM]) {
     asked_sheet *sheet = checked(calloc(1, sizeof *sheet));
     sheet->path = path;
     if (!load(sheet, reason)) {

@@ -90,7 +90,7 @@ typedef struct {
 
 /* Reads a sheet and asks for all its names. Null where it cannot be read or is refused, with the reason and, where one
  * is at fault, the record. */
-asked_sheet *ask_sheet(const char *path, char reason[REASON_ROOM]);
+asked_sheet *ask_sheet(const char *path, char reason[REFUSAL_ROOM]);
 
 /* Memory, or the end of the program where there is none. */
 void *checked(void *memory);

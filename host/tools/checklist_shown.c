@@ -245,7 +245,7 @@ static char *read_text(const char *path, size_t *n, const char **reason) {
 }
 
 bool judge_file(const char *path, const char *sheet_path) {
-    char reason[REASON_ROOM];
+    char reason[REFUSAL_ROOM];
     const char *unread;
     size_t n;
     printf("Shown in %s for sheet %s\n", input_name(path), input_name(sheet_path));

@@ -54,7 +54,7 @@ static bool pass_record(const uint8_t *sheet, size_t n, size_t *at) {
 }
 
 /* The record is found by checking the sheet cut after each one in turn. */
-void tell_refusal(char reason[REASON_ROOM], uint8_t *sheet, size_t n, uint32_t number) {
+void tell_refusal(char reason[REFUSAL_ROOM], uint8_t *sheet, size_t n, uint32_t number) {
     char place[40] = "", found[40] = "";
     unsigned count = number > EAS_VERSION_UNKNOWN ? record_count(sheet) : 0;
     size_t at = HEAD;
@@ -70,11 +70,11 @@ void tell_refusal(char reason[REASON_ROOM], uint8_t *sheet, size_t n, uint32_t n
         snprintf(place, sizeof place, "record %u: ", record);
         break;
     }
-    snprintf(reason, REASON_ROOM, "%srefusal %u: %s%s", place, number, eas_reason(number), found);
+    snprintf(reason, REFUSAL_ROOM, "%srefusal %u: %s%s", place, number, eas_reason(number), found);
 }
 
 static int refuse_sheet(const char *input, uint8_t *sheet, size_t n, uint32_t number) {
-    char reason[REASON_ROOM];
+    char reason[REFUSAL_ROOM];
     tell_refusal(reason, sheet, n, number);
     return refuse("%s: %s", input, reason);
 }

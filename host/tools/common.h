@@ -44,8 +44,8 @@ int load_bytes(const char *path, uint8_t sheet[SHEET_MOST + 1], size_t *n);
 int load_sheet(const char *path, uint8_t sheet[SHEET_MOST + 1], size_t *n);
 
 /* Why a sheet is refused with this number, with the record at fault; its bytes are no sheet's any more. */
-enum { REASON_ROOM = 320 };
-void tell_refusal(char reason[REASON_ROOM], uint8_t *sheet, size_t n, uint32_t number);
+enum { REFUSAL_ROOM = 320 };
+void tell_refusal(char reason[REFUSAL_ROOM], uint8_t *sheet, size_t n, uint32_t number);
 
 /* The same as load_sheet; where the output is the input's own file, only once no other program changes it in this way,
  * and until this one ends none does. */
