@@ -117,6 +117,12 @@ twenty() {
         test "$(tail -n 1 "$work/told")" = "sheet_tool: $work/text.csv: 980 more rows are wrong"
 }
 expect "twenty wrong rows are told, and how many more" twenty
+{ echo name,kind,first,density; seq 10 1009 | sed 's/$/%2F,1,101330000000,129200000000/'; } > "$work/text.csv"
+noted() {
+    "$tool" pack -o "$work/sheet.eas" "$work/text.csv" 2> "$work/told" && test "$(wc -l < "$work/told")" -eq 22 &&
+        test "$(tail -n 2 "$work/told" | head -n 1)" = "sheet_tool: $work/text.csv: note: 980 more names look spelled"
+}
+expect "twenty names that look spelled are told, and how many more" noted
 long="over 1000 fields or 1048576 bytes, or no memory"
 for verb in pack eval; do
     { printf "$si"'"'; head -c 3000000 /dev/zero | tr '\0' x; } > "$work/text.csv"

@@ -17,6 +17,7 @@ typedef struct {
     row_taker taker;
     const pack_options *how;
     bool has_heading, is_unusable;
+    unsigned long looks_spelled; /* names that are taken as they stand */
     uint8_t *bytes;
     size_t n;
     unsigned long line[RECORDS_MOST];
@@ -36,9 +37,11 @@ typedef struct {
 } entry;
 
 /* A raw name that could be a spelled one is taken as it stands, but told. */
-static void note_spelled(const packing *p, const row *r, field f) {
+static void note_spelled(packing *p, const row *r, field f) {
     uint8_t name[NAME_MOST];
-    if (memchr(f.text, '%', f.length) && !read_spelled((const uint8_t *)f.text, f.length, name).number)
+    if (!memchr(f.text, '%', f.length) || read_spelled((const uint8_t *)f.text, f.length, name).number)
+        return;
+    if (p->looks_spelled++ < COMPLAINTS_MOST)
         refuse("%s: line %lu: note: '%s' is taken as it stands; names in percent form belong in a column 'spelled'",
                p->told.input, r->line, shown(f));
 }
@@ -170,6 +173,8 @@ static int pack_rows(packing *p, FILE *in) {
     begin_sheet(p);
     int failed = read_rows(p->told.input, in, &p->taker);
     tell_untold(&p->told);
+    if (p->looks_spelled > COMPLAINTS_MOST)
+        refuse("%s: note: %lu more names look spelled", p->told.input, p->looks_spelled - COMPLAINTS_MOST);
     if (p->full_line && !failed)
         failed = refuse_full(p);
     if (failed || p->told.count)

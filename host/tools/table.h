@@ -8,7 +8,7 @@
 #include "record.h"
 #include "rows.h"
 
-enum { REASON_ROOM = 640 };
+enum { EXPLAINED_ROOM = 640 };
 
 /* One row. Of a name in a run list that finds no state, number is 0 and `asked` is what stands there. */
 typedef struct {
@@ -17,8 +17,8 @@ typedef struct {
     const kind_row *kind;
     uint32_t refusal;
     int64_t value;
-    char reason[REASON_ROOM]; /* in words; empty where it is not refused */
-    unsigned long line;       /* in the run list; 0 where there is none */
+    char reason[EXPLAINED_ROOM]; /* in words; empty where it is not refused */
+    unsigned long line;          /* in the run list; 0 where there is none */
     field asked;
 } table_row;
 
