@@ -25,7 +25,8 @@ def blocks(page):
     text = page.read_text()
     if page.suffix == ".md":
         return [[line[4:] for line in found.splitlines()] for found in re.findall(r"(?:^    .*\n?)+", text, re.MULTILINE)]
-    return [unroff(found).splitlines() for found in re.findall(r"^\.Bd -literal[^\n]*\n(.*?)^\.Ed", text, re.MULTILINE | re.DOTALL)]
+    displays = re.findall(r"^\.Bd -literal[^\n]*\n(.*?)^\.Ed", text, re.MULTILINE | re.DOTALL)
+    return [unroff(found).splitlines() for found in [*displays, *re.findall(r"^\.Dl (.*)$", text, re.MULTILINE)]]
 
 
 def commands(lines):
@@ -76,6 +77,15 @@ def named(page, known):
         yield f"{program} {word}", word in known.get(program, ())
 
 
+def prepare(tree, folder):
+    """the files that pages take for granted: the samples, a sheet, and one of runs"""
+    for sample in (tree / "share" / "airstate" / "samples").iterdir():
+        (folder / sample.name).write_bytes(sample.read_bytes())
+    (folder / "sheet.eas").write_bytes((folder / "sample.eas").read_bytes())
+    text = b"name,pressure_Pa,density_kg_m3\nnozzle 1,1251,0.04\nreservoir,13211000,9.753\n"
+    subprocess.run([tree / "bin" / "airstate-sheet", "pack", "-o", folder / "runs.eas"], input=text, check=True, capture_output=True)
+
+
 def main(tree, *pages):
     tree = Path(tree).resolve()
     checks, failures = 0, []
@@ -83,9 +93,7 @@ def main(tree, *pages):
     known = uses(tree)
     for page in map(Path, pages):
         with tempfile.TemporaryDirectory() as folder:
-            for sample in (tree / "share" / "airstate" / "samples").iterdir():
-                (Path(folder) / sample.name).write_bytes(sample.read_bytes())
-            (Path(folder) / "sheet.eas").write_bytes((Path(folder) / "sample.eas").read_bytes())
+            prepare(tree, Path(folder))
             for display in blocks(page):
                 loose = [line for line in display if line.lstrip().startswith("airstate-") and not re.match(r"airstate-[a-z]+: ", line)]
                 if not display[0].startswith("$ ") and loose:
