@@ -1,9 +1,11 @@
 // The answer for a state of equilibrium air, and the engine of every property: places, joins, choices, ranges. The properties are in
 // `air_temperature`, `air_entropy` and `air_pressure`, the rows of kinds in `state`; the code is in crates above them.
+#![tactic(auto)]
+
 use fit::Edge;
 
 // The logarithms that an answer carries, in whole millionths: y and z, and with `triple` also x, which is 0 elsewhere.
-#[derive(Drop)]
+#[derive(Clone, Copy)]
 pub struct Logs {
     pub triple: bool,
     pub x: i64,
@@ -12,7 +14,7 @@ pub struct Logs {
 }
 
 // The fits that an answer carries: none, one, or in a join the lower and the upper edge's.
-#[derive(Drop)]
+#[derive(Clone, Copy)]
 pub enum Edges {
     Unfitted,
     One(Edge),
@@ -20,7 +22,7 @@ pub enum Edges {
 }
 
 // The values at a join's two edges.
-#[derive(Drop)]
+#[derive(Clone, Copy)]
 pub enum Ends {
     Unjoined,
     Both(i64, i64),
@@ -28,7 +30,7 @@ pub enum Ends {
 
 // The answer for a state. A letter says what was asked: T, S or P. The logarithms and the fits stand at one place in both cases that have
 // them, behind the shorter fields, so that an answer is handed on in whole words.
-#[derive(Drop)]
+#[derive(Clone, Copy)]
 pub enum Answer {
     // The number alone.
     Refused(u32),

@@ -1,5 +1,4 @@
 -- An entropy in a strip; and the distance at exact places: so many units from 0, and no further.
-use mathlib.Core.List.{[]}
 use mathlib.Core.Option.{some}
 use mathlib.Core.Path.{◌≡◌, refl}
 use lib.Count.{count_leading_zeros}

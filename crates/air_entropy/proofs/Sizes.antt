@@ -10,7 +10,6 @@ use Rattle.integer.specs.Z.{zs, v}
 use Rattle.integer.specs.Laws.{abs_is, abs_by, abs-+, abs-*}
 use Rattle.quotient.specs.Range.{In}
 use Rattle.bicubic.specs.Bicubic.{bicubic}
-use Rattle.bicubic.proofs.Size.{size}
 use Rattle.quotient.proofs.Floors.{quotient_upto}
 use Rattle.proportion.proofs.Scaling.{entropy_rise_size}
 use Rattle.bands.specs.Bands.{band_of}

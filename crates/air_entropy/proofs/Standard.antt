@@ -1,6 +1,5 @@
 -- Entropies at D0 and at E0 times a power of ten, for every choice of the free answers.
 use mathlib.Core.Bool.{false}
-use mathlib.Core.List.{[]}
 use mathlib.Core.Option.{some}
 use mathlib.Core.Path.{◌≡◌, refl, ap, ◌∙◌}
 use Prim.Native.Nat.{ℕ, ◌*◌, ◌^◌}

@@ -1,3 +1,5 @@
 // Entropy of an energy and a density: what its answer holds and what is claimed of it, in specs/ and proofs/; the code is in
 // `entropy`. A crate has at least one function.
+#![tactic(auto)]
+
 pub fn unit() {}

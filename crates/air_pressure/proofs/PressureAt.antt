@@ -1,7 +1,6 @@
 -- Request 3 at exact places: what the choices make of pressures, and the bounds of its refusals.
 use mathlib.Core.Bool.{true, false, cond}
 use mathlib.Core.Path.{◌≡◌, refl}
-use mathlib.Core.List.{[]}
 use mathlib.Core.Option.{some}
 use Prim.Native.Nat.{ℕ}
 use lib.Count.{count_leading_zeros}

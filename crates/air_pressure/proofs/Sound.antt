@@ -6,7 +6,7 @@ use lib.Dec.{T}
 use Rattle.bands.specs.Bands.{strip_of}
 use Rattle.air.specs.declared.Logs.{Logs}
 use Rattle.air.specs.Quantities.{is_density, is_energy}
-use Rattle.air.specs.Held.{Held, shows}
+use Rattle.air.specs.Held.{Held}
 use Rattle.air.specs.Places.{value_at}
 use Rattle.air_pressure.specs.Pressure.{is_warned, pressure_of, pressure_rule, IsPressureOf}
 use Rattle.air_pressure.specs.Claim.{gamma_distance, PressureClaim}

@@ -1,6 +1,5 @@
 -- What the choices make of temperatures at exact places: in a strip (request 1), in a transition, on both sides of refusal 13.
 use mathlib.Core.Path.{◌≡◌, refl}
-use mathlib.Core.List.{[]}
 use mathlib.Core.Option.{some}
 use Prim.Native.Nat.{ℕ}
 use lib.Count.{count_leading_zeros}

@@ -1,6 +1,5 @@
 -- The temperature of the standards, for every choice of the free answers.
 use mathlib.Core.Bool.{true}
-use mathlib.Core.List.{[]}
 use mathlib.Core.Option.{some}
 use mathlib.Core.Path.{◌≡◌, ap, ◌∙◌, subst}
 use lib.IntN.{pos, ◌-ℤ◌}

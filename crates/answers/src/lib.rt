@@ -1,4 +1,6 @@
 // How a property answers a state: ranges and logarithms of its two values, and the two ways in which it answers one whose values are in range.
+#![tactic(auto)]
+
 ghost use Rattle.std.specs.Prelude.{◌≡◌};
 ghost use Rattle.air.specs.Quantities.{within};
 ghost use Rattle.air.specs.Held.{held, judges, shows};
@@ -26,7 +28,7 @@ const MOST_ENERGY: u64 = 1000000000000;
 const E0: u64 = 78408400;
 
 // What two values give before any property looks at them: a refusal's number, or their logarithms.
-#[derive(Drop)]
+#[derive(Clone, Copy)]
 pub enum Taken {
     Beyond(u32),
     Carried(Logs),

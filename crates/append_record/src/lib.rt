@@ -1,4 +1,6 @@
 // A sheet with one record more, written.
+#![tactic(auto)]
+
 ghost use Rattle.std.specs.Prelude.{◌≡◌, ◌+◌, ◌<◌, ◌≤◌, length};
 ghost use Rattle.octets.specs.Bytes.{number_at, bytes_of};
 ghost use Rattle.octets.specs.Room.{text, written, put_at};

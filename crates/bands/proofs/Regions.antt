@@ -5,7 +5,6 @@ use Prim.Native.Nat.{ℕ, ◌<◌}
 use native.Mathlib.Omega.{arith}
 use lib.IntN.{ℤ}
 use Rattle.bands.specs.declared.Band.{Band}
-use Rattle.bands.specs.declared.Region.{Region}
 use Rattle.bands.specs.declared.Region.TheVariants.{Refused, Perfect, Fitted}
 use Rattle.bands.specs.Bands.{band_of}
 use Rattle.bands.specs.Region.{temperature_index, piece_count, beyond_window, is_perfect, pick_region, region_of}

@@ -1,7 +1,6 @@
 -- The strips at their edges: a strip has the Y strictly between -4,525,000 and -4,475,000, or between -505,000 and -495,000.
 use mathlib.Core.Path.{◌≡◌, refl}
 use lib.IntN.{ℤ, pos, neg_ℤ}
-use Rattle.bands.specs.declared.Strip.{Strip}
 use Rattle.bands.specs.declared.Strip.TheVariants.{Clear, Between}
 use Rattle.bands.specs.Bands.{strip_of}
 

@@ -1,11 +1,13 @@
 // Where a state falls: density bands, the strips between them, and the pieces of a band.
+#![tactic(auto)]
+
 ghost use Rattle.std.specs.Prelude.{◌≡◌, [], ◌∷◌};
 ghost use Rattle.bands.specs.Units.{index_in};
 ghost use Rattle.bands.specs.Bands.{band_of, strip_of};
 ghost use Rattle.bands.specs.Region.{temperature_index, region_of};
 
 // A density band, chosen by Y.
-#[derive(Drop)]
+#[derive(Clone, Copy)]
 pub enum Band {
     Low,
     Middle,
@@ -13,14 +15,14 @@ pub enum Band {
 }
 
 // Where a property is joined: nowhere, or between two edges.
-#[derive(Drop)]
+#[derive(Clone, Copy)]
 pub enum Strip {
     Clear,
     Between(i64, i64),
 }
 
 // What a temperature's Y and Z choose: refusal 12, the perfect gas, or a fitted piece of a band.
-#[derive(Drop)]
+#[derive(Clone, Copy)]
 pub enum Region {
     Refused,
     Perfect,

@@ -1,5 +1,5 @@
 -- How far a rounded value is from its exact fraction, built along the value: over any coefficients.
-use mathlib.Core.Path.{◌≡◌, sym, ap, ap₂, subst, subst₂}
+use mathlib.Core.Path.{◌≡◌, sym, ap₂, subst, subst₂}
 use mathlib.Core.List.{List}
 use Prim.Native.Nat.{ℕ, suc, ◌+◌, ◌*◌, ◌≤◌, ◌<◌}
 use native.Mathlib.Nat.{mul-pos, mul_comm, mul-le-mul_right, mul-le-mul_left}

@@ -1,5 +1,7 @@
 // Bicubics and exponents of a fit in 64 bits: each product a mul, from left to right. A coefficient of a bicubic is
 // small; a term of an exponent is seldom so small that a test for it would pay.
+#![tactic(auto)]
+
 ghost use Rattle.std.specs.Prelude.{◌≡◌, ◌+ℤ◌};
 ghost use Rattle.quotient.specs.Range.{In, AllIn};
 ghost use Rattle.quotient.specs.Mul.{mul};

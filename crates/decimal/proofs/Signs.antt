@@ -12,7 +12,7 @@ use lib.Seq.{sets}
 use native.Mathlib.Numerals.{add-one}
 use lib.Signed.{lt_z, non_neg}
 use mir.Syntax.{w64}
-use mir.Val.{SFits, to_z, of_z}
+use mir.Val.{SFits}
 use Rattle.integer.specs.Z.{zs, ≡-by}
 use Rattle.decimal.specs.Decimal.{natural, whole}
 use Rattle.decimal.proofs.Digits.{at_most}

@@ -1,4 +1,6 @@
 // Products of more than 64 bits, digit by digit in 64-bit steps.
+#![tactic(auto)]
+
 ghost use Rattle.std.specs.Prelude.{◌≡◌, ◌*◌, ◌/◌, ◌^◌};
 ghost use Rattle.digits.specs.Factors.{Multiplies};
 

@@ -1,5 +1,5 @@
 -- Whether two records of a sheet have the same name. A record is given by its start, the place of its length byte.
-use Rattle.std.specs.Prelude.{Bool, true, false, ◌||◌, List, [], ◌∷◌, ℕ, ◌<◌, get_or}
+use Rattle.std.specs.Prelude.{Bool, false, ◌||◌, List, [], ◌∷◌, ℕ, ◌<◌, get_or}
 use Rattle.octets.specs.Bytes.{same}
 use Rattle.sheet_name.specs.Name.{name_at, NameFits}
 

@@ -1,6 +1,8 @@
 // The names of a sheet's records by chained hashing in two lent arrays: whether they are all different, and which record has a name.
 // The time is near linear for names that spread over the chains, and grows with the square of the count where a sheet is made so that all
 // of its names fall into one chain.
+#![tactic(auto)]
+
 ghost use Rattle.std.specs.Prelude.{◌≡◌, false, ℕ, ◌<◌, ◌≤◌, length, take};
 ghost use Rattle.distinct.specs.Distinct.{NamesFit, repeats};
 ghost use Rattle.distinct.specs.Chain.{NoLinks, Falling, Walked, Table, Placed};

@@ -1,4 +1,6 @@
 // The entropy at a place, and whether Z is above its limit there.
+#![tactic(auto)]
+
 ghost use Rattle.std.specs.Prelude.{◌≡◌};
 ghost use Rattle.air_entropy.specs.Entropy.{rise, entropy_at, above_limit};
 ghost use Rattle.air.specs.Ready.{PlaceReady};

@@ -1,4 +1,6 @@
 // The fit engine in 64 bits: G and W of a piece, whose coefficients are lent packed.
+#![tactic(auto)]
+
 ghost use Rattle.std.specs.Prelude.{◌≡◌};
 ghost use Rattle.weight.specs.Choice.{weight_by, Served};
 ghost use Rattle.packed.specs.Packed.{Block};
@@ -8,7 +10,7 @@ ghost use Rattle.fit.specs.Edge.{sign_of, limit_of, packed_alone, packed_joint, 
 use packed_bicubic::{bicubic_of, exponent_of};
 
 // A fit: its value G and the weight W that it was worked out with, in units of 10^-10.
-#[derive(Drop)]
+#[derive(Clone, Copy)]
 pub struct Edge {
     pub fit: i64,
     pub weight: i64,
@@ -16,7 +18,7 @@ pub struct Edge {
 
 // How B is led to: it is divided by one plus or by one minus the exponential of the exponent, or by one plus that of the
 // exponent kept within 30 of 0 (label 230 of TGAS1).
-#[derive(Drop)]
+#[derive(Clone, Copy)]
 pub enum Form {
     Plus,
     Minus,

@@ -6,7 +6,7 @@ ghost use Rattle.flat.specs.Flat.{low_value, high_value, flat_edges, assembled, 
 use air::{Answer, Edges, Ends, Logs};
 
 #[repr(C)]
-#[derive(Drop)]
+#[derive(Clone, Copy)]
 pub struct CEdge {
     pub fit: i64,
     pub weight: i64,
@@ -14,7 +14,7 @@ pub struct CEdge {
 }
 
 #[repr(C)]
-#[derive(Drop)]
+#[derive(Clone, Copy)]
 pub struct CAnswer {
     pub number: u32,
     pub letter: u32,
@@ -28,7 +28,7 @@ pub struct CAnswer {
 }
 
 // The low and the high edge, with the bits that say which are carried.
-#[derive(Drop)]
+#[derive(Clone, Copy)]
 pub struct CEdges {
     pub bits: u32,
     pub low: CEdge,

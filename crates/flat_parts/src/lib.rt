@@ -8,7 +8,7 @@ use sheet_remark::Remark;
 use sheet_search::Lookup;
 
 #[repr(C)]
-#[derive(Drop)]
+#[derive(Clone, Copy)]
 pub struct CRecord {
     pub number: u32,
     pub kind: u32,
@@ -19,7 +19,7 @@ pub struct CRecord {
 }
 
 #[repr(C)]
-#[derive(Drop)]
+#[derive(Clone, Copy)]
 pub struct CPart {
     pub number: u32,
     pub start: usize,
@@ -27,21 +27,21 @@ pub struct CPart {
 }
 
 #[repr(C)]
-#[derive(Drop)]
+#[derive(Clone, Copy)]
 pub struct CText {
     pub number: u32,
     pub length: usize,
 }
 
 #[repr(C)]
-#[derive(Drop)]
+#[derive(Clone, Copy)]
 pub struct CPoint {
     pub across: f64,
     pub up: f64,
 }
 
 #[repr(C)]
-#[derive(Drop)]
+#[derive(Clone, Copy)]
 pub struct CMark {
     pub blank: u32,
     pub point: CPoint,

@@ -1,9 +1,9 @@
 -- Tests of order on whole numbers, and the orders that they say.
-use Rattle.std.specs.Prelude.{Bool, true, false, not, ◌≡◌, refl, ℕ, ℤ, pos, negsuc, ◌≤ℤ◌, ◌<ℤ◌}
+use Rattle.std.specs.Prelude.{Bool, true, false, not, ◌≡◌, refl, ℤ, pos, negsuc, ◌≤ℤ◌, ◌<ℤ◌}
 use Rattle.std.proofs.Common.{sym, subst, arith}
 use lib.Dec.{T}
 use Rattle.std.specs.Int.Signed.{le_z, lt_z, le_z_yes, lt_z_yes, lt_z_no}
-use Rattle.integer.specs.Z.{up, dn, ≤→, <→, →≤}
+use Rattle.integer.specs.Z.{≤→, <→}
 
 -- a test that is true, or false
 pub is_true : {b : Bool} → b ≡ true → T b

@@ -1,11 +1,14 @@
 // Free answer three: 273.15 K times ten to a whole number of millionths, in whole microkelvin.
 // Method: a table for the multiples of 65,536 millionths, a factor each for those of 2,048 and of 64, a straight line for the rest.
 // The result is at most 0.0096 millionths below the power and at most 0.0066 above it (`near_power` of power/proofs/Kelvin).
+#![tactic(auto)]
+
 ghost use Rattle.std.specs.Prelude.{◌≡◌, ◌≤◌, ◌<◌, pos, get_or};
 ghost use Rattle.power.specs.Power.{IsPower};
 ghost use Rattle.power.specs.Choice.{coarse, middle, fine, stride_of, step_of, power_of};
 
 // The power at a multiple of 65,536 millionths, in microkelvin.
+#[tactic(auto, unfolding(power::specs::Choice::coarse))]
 fn coarse_power(i: u64) -> u64
     requires { i < 30 }
     ensures { result ≡ get_or coarse i 0 }
@@ -45,6 +48,7 @@ fn coarse_power(i: u64) -> u64
 }
 
 // Ten to a multiple of 2,048 millionths, times 2^29.
+#[tactic(auto, unfolding(power::specs::Choice::middle))]
 fn middle_power(i: u64) -> u64
     requires { i < 32 }
     ensures { result ≡ get_or middle i 0 }
@@ -86,6 +90,7 @@ fn middle_power(i: u64) -> u64
 }
 
 // Ten to a multiple of 64 millionths, times 2^29.
+#[tactic(auto, unfolding(power::specs::Choice::fine))]
 fn fine_power(i: u64) -> u64
     requires { i < 32 }
     ensures { result ≡ get_or fine i 0 }

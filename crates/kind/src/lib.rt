@@ -1,8 +1,10 @@
 // The kinds of a record: what its two values are and which property is wanted.
+#![tactic(auto)]
+
 ghost use Rattle.std.specs.Prelude.{◌≡◌};
 ghost use Rattle.kind.specs.Kind.{kind_of, is_known};
 
-#[derive(Drop)]
+#[derive(Clone, Copy)]
 pub enum Kind {
     Temperature,
     Entropy,

@@ -1,4 +1,6 @@
 // Writes the listing of a list under a sheet to standard output, through a lent room.
+#![tactic(auto)]
+
 ghost use Rattle.std.specs.Prelude.{[], ◌≡◌, length, ◌≤◌};
 ghost use Rattle.air.specs.Choices.{chosen};
 ghost use Rattle.report_refusal.specs.Refusal.{refusal_of};
@@ -8,9 +10,12 @@ ghost use Rattle.listing_output.specs.Output.{Reached};
 
 use listing_output::Written;
 use octets::Outcome;
+use std::io::Write;
 
 // Writes the lines of a list under a sheet that is indexed, part by part through a room.
-fn write_parts(
+fn write_parts<W: Write>(
+    rt: &impl Eprint,
+    output: &mut W,
     sheet: &[u8],
     starts: &[u16; 3449],
     heads: &[u16; 4096],
@@ -27,7 +32,7 @@ fn write_parts(
     while start < list.len() {
         let part = report::part(sheet, starts, heads, next, list, start, out);
         let n = part.len;
-        written = listing_output::write_next(sheet, list, written, &out[..n]);
+        written = listing_output::write_next(rt, output, sheet, list, written, &out[..n]);
         if written.failed() {
             return written;
         }
@@ -37,7 +42,13 @@ fn write_parts(
 }
 
 // Writes the listing of a list under a sheet through a room: the line of a refusal, or all parts.
-pub fn write_listing(sheet: &[u8], list: &[u8], out: &mut [u8]) -> Written
+pub fn write_listing<W: Write>(
+    rt: &impl Eprint,
+    output: &mut W,
+    sheet: &[u8],
+    list: &[u8],
+    out: &mut [u8],
+) -> Written
     requires { (192 ≤ length out.old) × (length out.old ≤ 65536) }
     ensures { Reached (length (listing_by chosen sheet.now list.now)) result }
 {
@@ -48,9 +59,9 @@ pub fn write_listing(sheet: &[u8], list: &[u8], out: &mut [u8]) -> Written
     match report_refusal::begin(sheet, &mut starts, &mut heads, &mut next, list, out) {
         Outcome::Done(n) => {
             if n == 0 {
-                return write_parts(sheet, &starts, &heads, &next, list, out);
+                return write_parts(rt, output, sheet, &starts, &heads, &next, list, out);
             }
-            listing_output::write_next(sheet, list, nothing, &out[..n])
+            listing_output::write_next(rt, output, sheet, list, nothing, &out[..n])
         }
         // never: the line of a refusal fits the room
         Outcome::Refused(_) => nothing,

@@ -1,6 +1,8 @@
 // Free answer one: the decimal logarithm of a ratio of two 64-bit numbers, in whole millionths.
 // Method: leading zeros, one of 32 factors that brings the leading bits to between 1 and 33/32, one of 32 chords; no division.
 // Each of the two logarithms is at most 1,106 units of 10^-10 too small (`lg_is` of logarithm/proofs/Numbers); their difference is rounded to millionths.
+#![tactic(auto)]
+
 ghost use Rattle.std.specs.Prelude.{◌≡◌, ◌+◌, ◌*◌, ◌≤◌, ◌<◌, get_or};
 ghost use Rattle.logarithm.specs.Log.{IsLog};
 ghost use Rattle.logarithm.specs.Choice.{factors, factor_logs, points, rises, chord_of, mantissa_of, lg_of, log_of};

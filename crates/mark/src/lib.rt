@@ -8,14 +8,14 @@ use air::Answer;
 
 // Two doubles.
 #[repr(C)]
-#[derive(Drop)]
+#[derive(Clone, Copy)]
 pub struct Point {
     pub across: f64,
     pub up: f64,
 }
 
 // A point, or a blank with its refusal number.
-#[derive(Drop)]
+#[derive(Clone, Copy)]
 pub enum Mark {
     At(Point),
     Blank(u32),

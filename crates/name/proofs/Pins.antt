@@ -1,5 +1,5 @@
 -- Document 01, Names, computed: what is written, what is read, and the refusals.
-use mathlib.Core.List.{List, [], ◌∷◌}
+use mathlib.Core.List.{[], ◌∷◌}
 use mathlib.Core.Path.{◌≡◌, refl}
 use lib.ListN.{replicate}
 use Rattle.octets.specs.Room.{refused, text}

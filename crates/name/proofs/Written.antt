@@ -3,14 +3,11 @@
 use mathlib.Core.Bool.{Bool, true, false, cond}
 use mathlib.Core.List.{List, [], ◌∷◌, ◌++◌, append_assoc, append-nil}
 use mathlib.Core.Path.{◌≡◌, refl, sym, ap, ◌∙◌}
-use Prim.Native.Nat.{ℕ, ◌+◌, ◌*◌, ◌/◌, ◌%◌, ◌≤◌, ◌<◌}
-use native.Mathlib.Numerals.{add-one}
+use Prim.Native.Nat.{ℕ, ◌*◌, ◌/◌, ◌%◌, ◌≤◌}
 use native.Mathlib.Omega.{arith}
 use borrow.Author.Tests.{le-leb}
 use lib.Dec.{leb}
-use lib.ListN.{length, take, drop, get_or, length-append}
-use lib.Seq.{sets, take-suc, take-length}
-use Rattle.octets.proofs.Stores.{put_more}
+use lib.ListN.{length, length-append}
 use Rattle.octets.specs.Room.{Text, text, refused, fitting}
 use Rattle.name.specs.Spelling.{unreserved, hex_digit, spelled_byte, spelled}
 use Rattle.name.specs.Name.{is_length, spelling_of}

@@ -1,4 +1,6 @@
 // Names and their spelling by RFC 3986: the bytes that stand for themselves, and hexadecimal digits. Reading and writing stand above.
+#![tactic(auto)]
+
 ghost use Rattle.std.specs.Prelude.{◌≡◌, ◌<◌};
 ghost use Rattle.name.specs.Spelling.{unreserved, hex_value, hex_digit};
 

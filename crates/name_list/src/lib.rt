@@ -1,4 +1,6 @@
 // A list of names, one a line.
+#![tactic(auto)]
+
 ghost use Rattle.std.specs.Prelude.{◌<◌, length};
 ghost use Rattle.name_list.specs.Lines.{FirstLine};
 

@@ -1,4 +1,6 @@
 // The name that a spelling reads to.
+#![tactic(auto)]
+
 ghost use Rattle.std.specs.Prelude.{◌≡◌, ◌<◌, length, replicate};
 ghost use Rattle.octets.specs.Room.{refused};
 ghost use Rattle.name.specs.Spelling.{reading};
@@ -16,14 +18,14 @@ pub struct Name {
 }
 
 // What a spelling has at a place: a byte and how many bytes spell it, or neither a raw byte nor a percent form.
-#[derive(Drop)]
+#[derive(Clone, Copy)]
 enum Piece {
     Byte(u8, usize),
     Broken,
 }
 
 // What a whole spelling has: how many bytes, or a wrong one.
-#[derive(Drop)]
+#[derive(Clone, Copy)]
 enum Scan {
     Count(usize),
     Wrong,

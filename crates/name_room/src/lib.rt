@@ -1,4 +1,6 @@
 // A name that a spelling reads to, in lent room.
+#![tactic(auto)]
+
 ghost use Rattle.std.specs.Prelude.{◌≡◌, length};
 ghost use Rattle.octets.specs.Room.{written, outcome_of};
 ghost use Rattle.name_room.specs.Read.{read_in};

@@ -1,9 +1,11 @@
 // Bytes: definitions and laws that names, sheets and lines share.
+#![tactic(auto)]
+
 ghost use Rattle.std.specs.Prelude.{◌≡◌, ◌+◌, ◌<◌, ◌≤◌, length};
 ghost use Rattle.octets.specs.Room.{fitting, written, put_at, outcome_of};
 
 // What became of a text: how many bytes it has, or the number of a refusal.
-#[derive(Drop)]
+#[derive(Clone, Copy)]
 pub enum Outcome {
     Done(usize),
     Refused(u32),

@@ -1,4 +1,6 @@
 // Coefficients packed into words of 32 bits: reading one back.
+#![tactic(auto)]
+
 ghost use Rattle.std.specs.Prelude.{◌≡◌, get_or};
 ghost use Rattle.packed.specs.Packed.{number_at, Reads};
 

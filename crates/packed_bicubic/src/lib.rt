@@ -1,5 +1,7 @@
 // Bicubics and exponents of packed coefficients, which are read back here: a function that only unpacked them would be worked out
 // by the compiler, and the unpacked numbers would stand in read-only memory.
+#![tactic(auto)]
+
 ghost use Rattle.std.specs.Prelude.{◌≡◌};
 ghost use Rattle.quotient.specs.Range.{In, AllIn};
 ghost use Rattle.packed.specs.Packed.{unpacked, Block};

@@ -1,4 +1,6 @@
 // The perfect gas: an exact quotient of some 100 bits by one of 62, in 64-bit steps.
+#![tactic(auto)]
+
 ghost use Rattle.std.specs.Prelude.{◌≡◌};
 ghost use Rattle.perfect.specs.Perfect.{perfect_gas, Dividable};
 

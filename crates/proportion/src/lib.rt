@@ -1,4 +1,6 @@
 // Products over a constant or a width in 64 bits, each rounded down: the part of B in a fit, the straight line of a join, an entropy's scale.
+#![tactic(auto)]
+
 ghost use Rattle.std.specs.Prelude.{◌≡◌, ◌*◌, ◌^◌, ◌≤◌, pos, nat_abs, ◌+ℤ◌, ◌*ℤ◌};
 ghost use Rattle.std.specs.Int.Signed.{shr_z};
 ghost use Rattle.weight.specs.Weight.{units};

@@ -1,11 +1,11 @@
 -- Quotients that are rounded down: of a product whose first factor is split, of a quotient, and how large they are.
 use mathlib.Core.Path.{◌≡◌, sym, ap, subst}
-use Prim.Native.Nat.{ℕ, suc, ◌+◌, ◌-◌, ◌*◌, ◌/◌, ◌≤◌, ◌<◌}
+use Prim.Native.Nat.{ℕ, ◌+◌, ◌-◌, ◌*◌, ◌/◌, ◌≤◌, ◌<◌}
 use native.Mathlib.Nat.{le-suc, div-mul-le_self, lt-div-mul-add, lt_of_mul-lt-mul_right, div-div-eq-div-mul, div-le_of_le-mul}
 use native.Mathlib.Omega.{arith}
 use lib.IntN.{ℤ, pos, negsuc, nat_abs, ◌+ℤ◌, ◌-ℤ◌, ◌*ℤ◌}
 use lib.Signed.{shr_z}
-use Rattle.integer.specs.Z.{up, zs, v}
+use Rattle.integer.specs.Z.{zs, v}
 use Rattle.integer.specs.Laws.{abs_by, abs_is}
 use Rattle.integer.specs.Floor.{Down, down, down_unique, down_by, down_lo_of, down_hi_of}
 

@@ -2,8 +2,8 @@
 use mathlib.Core.Path.{◌≡◌, refl, sym, subst}
 use mathlib.Core.Bool.{Bool, true, false, ◌&&◌}
 use mathlib.Core.List.{List, [], ◌∷◌}
-use Prim.Native.Nat.{ℕ, zero, suc, ◌+◌, ◌-◌, ◌*◌, ◌/◌, ◌^◌, ◌≤◌, ◌<◌}
-use native.Mathlib.Nat.{mul-le-mul, mul-le-mul_right, le_of_lt, div-le_self, div-mul-le_self, lt-div-mul-add}
+use Prim.Native.Nat.{ℕ, zero, suc, ◌+◌, ◌*◌, ◌/◌, ◌^◌, ◌≤◌, ◌<◌}
+use native.Mathlib.Nat.{mul-le-mul_right, le_of_lt, div-le_self, div-mul-le_self, lt-div-mul-add}
 use native.Mathlib.Omega.{arith}
 use borrow.Author.Tests.{ltb-false}
 use lib.Dec.{T, ltb, leb, ltb→lt, leb→le}
@@ -15,7 +15,7 @@ use mir.Syntax.{w64}
 use mir.Val.{SFits, to_z, of_z}
 use mir.ValLaws.{to_z-of_z}
 use Rattle.integer.specs.Z.{up, dn, zs, v, ≡→, +-split}
-use Rattle.integer.specs.Laws.{mag_abs, abs_is, abs-*, abs-+}
+use Rattle.integer.specs.Laws.{abs_is, abs-*, abs-+}
 use Rattle.integer.specs.Floor.{Down, down_unique, down_by}
 use Rattle.integer.proofs.Machine.{fits64, back_ok}
 use Rattle.quotient.specs.Range.{In, all_in, AllIn, Divides, Splits}

@@ -1,5 +1,7 @@
 // Products and quotients of whole numbers in 64 bits. Every quotient is rounded toward minus infinity; a product that would
 // leave 64 bits is split first.
+#![tactic(auto)]
+
 ghost use Rattle.std.specs.Prelude.{◌≡◌, ◌*◌, ◌^◌, ◌<◌, pos, nat_abs, ◌*ℤ◌};
 ghost use Rattle.std.specs.Int.Signed.{shr_z};
 ghost use Rattle.quotient.specs.Range.{In, Divides, Splits};

@@ -20,7 +20,7 @@ pub struct Built {
 }
 
 // How far a part came: the place of the first line that is left, and the bytes that were written.
-#[derive(Drop)]
+#[derive(Clone, Copy)]
 pub struct Progress {
     pub next: usize,
     pub len: usize,

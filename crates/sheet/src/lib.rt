@@ -1,11 +1,13 @@
 // The state sheet: a walk over its records, and an index of their names.
+#![tactic(auto)]
+
 ghost use Rattle.std.specs.Prelude.{◌≡◌, ◌<◌, ◌≤◌, length, set};
 ghost use Rattle.sheet.specs.Index.{Blank, Indexed};
 ghost use Rattle.sheet.specs.Sheet.{number_of, sheet_of};
 ghost use Rattle.sheet.specs.Structure.{Walked};
 
 // Where a walk over the records ends: the reader's place, how many records are left, and how many come before.
-#[derive(Drop)]
+#[derive(Clone, Copy)]
 struct Tally {
     at: usize,
     left: usize,

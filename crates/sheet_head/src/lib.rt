@@ -1,4 +1,6 @@
 // The header of the state sheet.
+#![tactic(auto)]
+
 ghost use Rattle.std.specs.Prelude.{◌≡◌};
 ghost use Rattle.sheet_head.specs.Head.{head_fault};
 

@@ -1,4 +1,6 @@
 // The name of the record that starts at a place of a sheet: its bytes, whether it is a given name, and the chain of a name.
+#![tactic(auto)]
+
 ghost use Rattle.std.specs.Prelude.{◌≡◌, ◌<◌};
 ghost use Rattle.octets.specs.Bytes.{same};
 ghost use Rattle.sheet_name.specs.Name.{name_at, NameFits, hash_of};

@@ -1,11 +1,13 @@
 // The sheet reader, which goes from one record to the next.
+#![tactic(auto)]
+
 ghost use Rattle.std.specs.Prelude.{◌≡◌, true};
 ghost use Rattle.sheet_record.specs.Layout.{layout_in};
 ghost use Rattle.sheet_record.specs.Front.{stands_at};
 ghost use Rattle.sheet_reader.specs.Reading.{read_on};
 
 // The sheet reader: the sheet, the place of its next record, and how many are left.
-#[derive(Drop)]
+#[derive(Clone, Copy)]
 pub struct Reader<'a> {
     pub sheet: &'a [u8],
     pub at: usize,

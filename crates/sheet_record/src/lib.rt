@@ -1,11 +1,13 @@
 // A record of the state sheet: its fields by their places, and where the next one stands.
+#![tactic(auto)]
+
 ghost use Rattle.std.specs.Prelude.{◌≡◌, true, ◌+◌, ◌<◌, ◌≤◌, eqb, length, get_or, drop};
 ghost use Rattle.octets.specs.Bytes.{number_at};
 ghost use Rattle.sheet_record.specs.Layout.{layout_in};
 ghost use Rattle.sheet_record.specs.Front.{Tailed, front_of, fault_of, behind, entry_at, stands_at, end_at};
 
 // One record: where its name stands, its kind byte and its two values.
-#[derive(Drop)]
+#[derive(Clone, Copy)]
 pub struct Record {
     pub start: usize,
     pub len: usize,

@@ -1,4 +1,6 @@
 // The remark of a found record, for an editor.
+#![tactic(auto)]
+
 ghost use Rattle.std.specs.Prelude.{◌≡◌, ◌≤◌, length, drop};
 ghost use Rattle.sheet_record.specs.Layout.{layout_in};
 ghost use Rattle.sheet_record.specs.Front.{Whole};
@@ -8,14 +10,14 @@ ghost use Rattle.sheet_remark.specs.Remark.{remark_at, remark_of, RemarkInside};
 use sheet_search::Lookup;
 
 // A part of a sheet.
-#[derive(Drop)]
+#[derive(Clone, Copy)]
 pub struct Part {
     pub start: usize,
     pub len: usize,
 }
 
 // The part that holds a remark, or a refusal's number.
-#[derive(Drop)]
+#[derive(Clone, Copy)]
 pub enum Remark {
     At(Part),
     Refused(u32),

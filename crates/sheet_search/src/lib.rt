@@ -1,4 +1,6 @@
 // Finding a name in the state sheet.
+#![tactic(auto)]
+
 ghost use Rattle.std.specs.Prelude.{◌≡◌};
 ghost use Rattle.sheet.specs.Index.{Indexed};
 ghost use Rattle.sheet.specs.Sheet.{sheet_of, records_of, seen};
@@ -7,7 +9,7 @@ ghost use Rattle.sheet_search.specs.Find.{find_of, handed_back, Inside};
 use sheet_record::Record;
 
 // What a search finds: a record, or a refusal's number.
-#[derive(Drop)]
+#[derive(Clone, Copy)]
 pub enum Lookup {
     Hit(Record),
     Miss(u32),

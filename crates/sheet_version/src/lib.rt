@@ -1,4 +1,6 @@
 // The state sheet where one version is read.
+#![tactic(auto)]
+
 ghost use Rattle.std.specs.Prelude.{◌≡◌};
 ghost use Rattle.sheet.specs.Index.{Blank, Indexed};
 ghost use Rattle.sheet.specs.Sheet.{number_of};

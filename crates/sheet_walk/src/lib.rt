@@ -1,4 +1,6 @@
 // The records of a state sheet in their order.
+#![tactic(auto)]
+
 ghost use Rattle.std.specs.Prelude.{◌≡◌};
 ghost use Rattle.sheet.specs.Index.{Indexed};
 ghost use Rattle.sheet_walk.specs.Records.{record_of};

@@ -1,4 +1,6 @@
 // A temperature's fit at a place: G and W, whether 13 refuses it, and the temperature that it makes.
+#![tactic(auto)]
+
 ghost use Rattle.std.specs.Prelude.{false, ◌||◌, ◌≡◌};
 ghost use Rattle.bands.specs.Region.{temperature_index};
 ghost use Rattle.tgas1_temperature.specs.Pieces.{temperature_piece};

@@ -1,4 +1,6 @@
 // Gamma by TGAS1: the fit of a band's piece, and whether the listing warns.
+#![tactic(auto)]
+
 ghost use Rattle.std.specs.Prelude.{◌≡◌};
 ghost use Rattle.std.specs.Int.Signed.{lt_z};
 ghost use Rattle.weight.specs.Choice.{weight_by};

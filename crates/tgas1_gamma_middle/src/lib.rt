@@ -1,4 +1,6 @@
 // Gamma's coefficients of the middle band in TGAS1, packed: the fit of the piece that Z chooses.
+#![tactic(auto)]
+
 mod blocks;
 
 ghost use Rattle.std.specs.Prelude.{◌≡◌};

@@ -1,4 +1,6 @@
 // Temperature by TGAS1: the fit of a band's piece.
+#![tactic(auto)]
+
 ghost use Rattle.std.specs.Prelude.{◌≡◌};
 ghost use Rattle.weight.specs.Choice.{weight_by};
 ghost use Rattle.fit.specs.Edge.{edge_with, Workable};

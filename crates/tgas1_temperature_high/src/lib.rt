@@ -1,4 +1,6 @@
 // Temperature's coefficients of the high band in TGAS1, packed: the fit of the piece that Z chooses.
+#![tactic(auto)]
+
 mod blocks;
 
 ghost use Rattle.std.specs.Prelude.{◌≡◌};

@@ -1,4 +1,6 @@
 // The entropy's coefficients in TGAS2, packed, and its limits: the fit of a band.
+#![tactic(auto)]
+
 mod blocks;
 
 ghost use Rattle.std.specs.Prelude.{◌≡◌};

@@ -1,7 +1,10 @@
 // The cases of walks and adds: each takes its words from a place on and gives the place behind its line.
+#![tactic(auto)]
+
 ghost use Rattle.std.specs.Prelude.{◌<◌, ◌≤◌, length};
 
 use octets::Outcome;
+use std::rt::Files;
 use vector_answers::{between, field, outcome, whole};
 use vector_names::label;
 use vector_words::{next_sheet, next_word, room, room_of};
@@ -21,28 +24,28 @@ fn start_of(room: &[u8], n: usize) -> &[u8] {
 }
 
 // How many records a walk has given, and how many it counted.
-fn walked(given: u32, count: u32) {
-    field(b", walk", given as u64);
-    field(b"", count as u64);
+fn walked(rt: &impl Print, given: u32, count: u32) {
+    field(rt, b", walk", given as u64);
+    field(rt, b"", count as u64);
 }
 
 // ---- a walk begins
 
 // Writes how a walk begins, and gives the walk.
-fn begins(begun: Begun) -> Walk {
-    field(b"", begun.number as u64);
-    walked(begun.walk.given, begun.walk.count);
+fn begins(rt: &impl Print, begun: Begun) -> Walk {
+    field(rt, b"", begun.number as u64);
+    walked(rt, begun.walk.given, begun.walk.count);
     begun.walk
 }
 
-pub fn begin(text: &[u8], from: usize) -> usize
+pub fn begin(rt: &(impl Files + Print), text: &[u8], from: usize) -> usize
     ensures { from ≤ result }
 {
     let mut room = room();
-    let sheet = next_sheet(text, from, &mut room);
-    let end = label(text, sheet.end);
+    let sheet = next_sheet(rt, text, from, &mut room);
+    let end = label(rt, text, sheet.end);
     let len = sheet.len;
-    begins(walk::begin(&room[0..len]));
+    begins(rt, walk::begin(&room[0..len]));
     end
 }
 
@@ -60,17 +63,17 @@ fn close_line(room: &mut [u8], n: usize) {
 }
 
 // A step, and the whole room.
-fn steps(s: &[u8], walk: Walk, out: &mut [u8]) {
+fn steps(rt: &impl Print, s: &[u8], walk: Walk, out: &mut [u8]) {
     let step = walk::take_step(s, walk, out);
-    field(b"", step.number as u64);
-    field(b"", step.length as u64);
-    walked(step.walk.given, step.walk.count);
+    field(rt, b"", step.number as u64);
+    field(rt, b"", step.length as u64);
+    walked(rt, step.walk.given, step.walk.count);
     close_line(out, step.length);
-    between(out);
+    between(rt, out);
 }
 
 // A walk that is handed in, and the place behind it.
-#[derive(Drop)]
+#[derive(Clone, Copy)]
 struct Handed {
     end: usize,
     walk: Walk,
@@ -91,7 +94,7 @@ fn next_walk(text: &[u8], from: usize) -> Handed
     }
 }
 
-pub fn next(text: &[u8], from: usize) -> usize
+pub fn next(rt: &(impl Files + Print), text: &[u8], from: usize) -> usize
     ensures { from ≤ result }
 {
     let mut out = room_of(b'.');
@@ -99,18 +102,18 @@ pub fn next(text: &[u8], from: usize) -> usize
     let lent = next_word(text, from, b' ', &mut room);
     let handed = next_walk(text, lent.end);
     let walk = handed.walk;
-    let sheet = next_sheet(text, handed.end, &mut room);
-    let end = label(text, sheet.end);
+    let sheet = next_sheet(rt, text, handed.end, &mut room);
+    let end = label(rt, text, sheet.end);
     let n = (lent.number % 262145) as usize;
     let len = sheet.len;
-    steps(&room[0..len], walk, &mut out[0..n]);
+    steps(rt, &room[0..len], walk, &mut out[0..n]);
     end
 }
 
 // ---- an add
 
 // A state that is typed: the place behind it, how many bytes its spelled name left in its room, and the rest.
-#[derive(Drop)]
+#[derive(Clone, Copy)]
 struct Typed {
     end: usize,
     len: usize,
@@ -138,32 +141,35 @@ fn next_typed(text: &[u8], from: usize, gap: u8, stop: u8, room: &mut [u8]) -> T
 }
 
 // An add, and the whole room.
-fn adds(s: &[u8], spelled: &[u8], state: Typed, out: &mut [u8]) {
-    outcome(append::add(s, spelled, state.kind, state.first, state.second, out));
-    whole(out);
+fn adds(rt: &impl Print, s: &[u8], spelled: &[u8], state: Typed, out: &mut [u8]) {
+    outcome(
+        rt,
+        append::add(s, spelled, state.kind, state.first, state.second, out),
+    );
+    whole(rt, out);
 }
 
-pub fn add(text: &[u8], from: usize) -> usize
+pub fn add(rt: &(impl Files + Print), text: &[u8], from: usize) -> usize
     ensures { from ≤ result }
 {
     let mut out = room_of(b'.');
     let mut words = room();
     let mut room = room();
     let lent = next_word(text, from, b' ', &mut words);
-    let sheet = next_sheet(text, lent.end, &mut room);
+    let sheet = next_sheet(rt, text, lent.end, &mut room);
     let state = next_typed(text, sheet.end, b' ', b' ', &mut words);
-    let end = label(text, state.end);
+    let end = label(rt, text, state.end);
     let n = (lent.number % 262145) as usize;
     let len = sheet.len;
     let spelled = state.len;
-    adds(&room[0..len], &words[0..spelled], state, &mut out[0..n]);
+    adds(rt, &room[0..len], &words[0..spelled], state, &mut out[0..n]);
     end
 }
 
 // ---- adds during a walk
 
 // How far the acts came: the place of the next one, the length of the sheet at the start of its room, and the walk.
-#[derive(Drop)]
+#[derive(Clone, Copy)]
 struct Progress {
     at: usize,
     len: usize,
@@ -171,20 +177,20 @@ struct Progress {
 }
 
 // A step of a walk, and its line.
-fn steps_on(s: &[u8], walk: Walk) -> Walk {
+fn steps_on(rt: &impl Print, s: &[u8], walk: Walk) -> Walk {
     let mut out = [b'.'; 192];
     let step = walk::take_step(s, walk, &mut out);
     if step.number != 0 {
-        field(b" refused", step.number as u64);
+        field(rt, b" refused", step.number as u64);
     } else {
         close_line(&mut out, step.length);
-        between(start_of(&out, step.length));
+        between(rt, start_of(&out, step.length));
     }
     step.walk
 }
 
 // Adds a state to the sheet of so many bytes in a room, and gives how many it has then.
-fn grows(room: &mut [u8], n: usize, spelled: &[u8], state: Typed) -> usize {
+fn grows(rt: &impl Print, room: &mut [u8], n: usize, spelled: &[u8], state: Typed) -> usize {
     let mut out = room_of(b'.');
     match append::add(
         start_of(room, n),
@@ -195,11 +201,11 @@ fn grows(room: &mut [u8], n: usize, spelled: &[u8], state: Typed) -> usize {
         &mut out,
     ) {
         Outcome::Refused(k) => {
-            field(b" refused", k as u64);
+            field(rt, b" refused", k as u64);
             n
         }
         Outcome::Done(k) => {
-            field(b"", k as u64);
+            field(rt, b"", k as u64);
             octets::put(start_of(&out, k), room);
             k
         }
@@ -207,7 +213,7 @@ fn grows(room: &mut [u8], n: usize, spelled: &[u8], state: Typed) -> usize {
 }
 
 // Does the act at a place, which its first letter tells.
-fn act(acts: &[u8], came: Progress, sheet: &mut [u8]) -> Progress
+fn act(rt: &impl Print, acts: &[u8], came: Progress, sheet: &mut [u8]) -> Progress
     requires { came.at < length acts.now }
     ensures { came.at < result.at }
 {
@@ -220,15 +226,15 @@ fn act(acts: &[u8], came: Progress, sheet: &mut [u8]) -> Progress
         let state = next_typed(acts, what.end, b':', b',', &mut room);
         let end = state.end;
         let spelled = state.len;
-        let len = grows(sheet, n, &room[0..spelled], state);
+        let len = grows(rt, sheet, n, &room[0..spelled], state);
         return Progress { at: end, len, walk };
     }
     let what = next_word(acts, at + 1, b',', &mut room);
     let s = start_of(sheet, n);
     let walk = if acts[at] == b'b' {
-        begins(walk::begin(s))
+        begins(rt, walk::begin(s))
     } else {
-        steps_on(s, walk)
+        steps_on(rt, s, walk)
     };
     Progress {
         at: what.end,
@@ -238,28 +244,28 @@ fn act(acts: &[u8], came: Progress, sheet: &mut [u8]) -> Progress
 }
 
 // Does all acts on the sheet of so many bytes in a room, and gives how many it has then.
-fn all_acts(acts: &[u8], sheet: &mut [u8], n: usize) -> usize {
+fn all_acts(rt: &impl Print, acts: &[u8], sheet: &mut [u8], n: usize) -> usize {
     let mut came = Progress {
         at: 0,
         len: n,
         walk: Walk { given: 0, count: 0 },
     };
     while came.at < acts.len() {
-        came = act(acts, came, sheet);
+        came = act(rt, acts, came, sheet);
     }
     came.len
 }
 
-pub fn during(text: &[u8], from: usize) -> usize
+pub fn during(rt: &(impl Files + Print), text: &[u8], from: usize) -> usize
     ensures { from ≤ result }
 {
     let mut words = room();
     let mut room = room();
-    let sheet = next_sheet(text, from, &mut room);
+    let sheet = next_sheet(rt, text, from, &mut room);
     let acts = next_word(text, sheet.end, b' ', &mut words);
-    let end = label(text, acts.end);
+    let end = label(rt, text, acts.end);
     let n = acts.len;
-    let len = all_acts(&words[0..n], &mut room, sheet.len);
-    whole(start_of(&room, len));
+    let len = all_acts(rt, &words[0..n], &mut room, sheet.len);
+    whole(rt, start_of(&room, len));
     end
 }

@@ -1,8 +1,14 @@
 // The words of a case: bytes up to one that ends them, in which \x and two hexadecimal digits stand for a byte.
+#![tactic(auto)]
+
 ghost use Rattle.std.specs.Prelude.{◌≡◌, ◌+◌, ◌<◌, ◌≤◌, length};
 
+use std::fs::File;
+use std::io::Read;
+use std::rt::Files;
+
 // A word: the place behind it, how many bytes it left in its room, and its number if its bytes are digits.
-#[derive(Drop)]
+#[derive(Clone, Copy)]
 pub struct Word {
     pub end: usize,
     pub len: usize,
@@ -10,7 +16,7 @@ pub struct Word {
 }
 
 // A byte that a word stands for, and how many bytes it takes there.
-#[derive(Drop)]
+#[derive(Clone, Copy)]
 struct Unit {
     byte: u8,
     len: usize,
@@ -101,8 +107,29 @@ pub fn next_word(text: &[u8], from: usize, stop: u8, room: &mut [u8]) -> Word
     word
 }
 
+// Reads until a room is full, the input ends or a read fails, and gives how many bytes it put at the start of the room.
+pub fn read_full<I: Read>(input: &mut I, room: &mut [u8]) -> usize
+    ensures { result ≤ length room.new }
+{
+    let mut len = 0;
+    while len < room.len() {
+        match input.read(&mut room[len..]) {
+            Ok(0) => return len,
+            Ok(n) => len += n,
+            Err(_) => return len,
+        }
+    }
+    len
+}
+
+// Opens the file of a name, if it can be opened.
+fn open_named<F: Files>(rt: &F, name: &[u8]) -> Option<F::File> {
+    let path = str::from_utf8(name).ok()?;
+    File::open(rt, path).ok()
+}
+
 // A sheet from a place on, its bytes or @ and the name of a file that has them: they go to the start of a room.
-pub fn next_sheet(text: &[u8], from: usize, room: &mut [u8]) -> Word
+pub fn next_sheet<F: Files>(rt: &F, text: &[u8], from: usize, room: &mut [u8]) -> Word
     ensures { (from ≤ result.end) × (result.len ≤ length room.new) }
 {
     let word = next_word(text, from, b' ', room);
@@ -113,9 +140,10 @@ pub fn next_sheet(text: &[u8], from: usize, room: &mut [u8]) -> Word
     if room[0] != b'@' {
         return word;
     }
-    let fd = os::open_read(&room[1..len]);
-    let n = io::read_full(fd, room);
-    libc::close(fd);
+    let n = match open_named(rt, &room[1..len]) {
+        Some(mut file) => read_full(&mut file, room),
+        None => 0,
+    };
     Word {
         end: word.end,
         len: n,

@@ -20,85 +20,90 @@
 //                               with a comma between two: the walk is the one last begun, the sheet what the adds made of it
 //
 // In a word \x and two hexadecimal digits stand for a byte. A sheet is its bytes, or @ and the name of a file that has them.
+#![tactic(auto)]
+
 ghost use Rattle.std.specs.Prelude.{◌<◌, ◌≤◌, length};
 
-use libc::{STDIN_FILENO, STDOUT_FILENO};
 use octets::Outcome;
 use sheet_remark::Remark;
 use sheet_search::Lookup;
+use std::rt::Files;
 use vector_answers::{answer, between, field, outcome, say, whole};
 use vector_names::label;
-use vector_words::{next_sheet, next_word, room, room_of};
+use vector_words::{next_sheet, next_word, read_full, room, room_of};
 
 // ---- cases: each takes its words from a place on and gives the place behind its line
 
-fn state(text: &[u8], from: usize) -> usize
+fn state(rt: &impl Print, text: &[u8], from: usize) -> usize
     ensures { from ≤ result }
 {
     let mut room = room();
     let kind = next_word(text, from, b' ', &mut room);
     let first = next_word(text, kind.end, b' ', &mut room);
     let second = next_word(text, first.end, b'\n', &mut room);
-    io::print_decimal(STDOUT_FILENO, kind.number);
-    field(b"", first.number);
-    field(b"", second.number);
-    answer(evaluate::evaluate((kind.number % 256) as u8, first.number, second.number));
+    let _ = print!(rt; "{}", kind.number);
+    field(rt, b"", first.number);
+    field(rt, b"", second.number);
+    answer(
+        rt,
+        evaluate::evaluate((kind.number % 256) as u8, first.number, second.number),
+    );
     second.end
 }
 
-fn check(text: &[u8], from: usize) -> usize
+fn check(rt: &(impl Files + Print), text: &[u8], from: usize) -> usize
     ensures { from ≤ result }
 {
     let mut room = room();
-    let sheet = next_sheet(text, from, &mut room);
-    let end = label(text, sheet.end);
+    let sheet = next_sheet(rt, text, from, &mut room);
+    let end = label(rt, text, sheet.end);
     let len = sheet.len;
-    field(b"", sheet::check(&room[0..len]) as u64);
+    field(rt, b"", sheet::check(&room[0..len]) as u64);
     end
 }
 
 // What a search finds.
-fn says(found: Lookup) {
+fn says(rt: &impl Print, found: Lookup) {
     match found {
         Lookup::Hit(r) => {
-            field(b" kind", r.kind as u64);
-            field(b" first", r.first);
-            field(b" second", r.second);
-            field(b" at", r.start as u64);
+            field(rt, b" kind", r.kind as u64);
+            field(rt, b" first", r.first);
+            field(rt, b" second", r.second);
+            field(rt, b" at", r.start as u64);
         }
-        Lookup::Miss(k) => field(b" refused", k as u64),
+        Lookup::Miss(k) => field(rt, b" refused", k as u64),
     }
 }
 
 // Where a remark stands.
-fn tells(remark: Remark) {
+fn tells(rt: &impl Print, remark: Remark) {
     match remark {
         Remark::At(p) => {
-            field(b" remark at", p.start as u64);
-            field(b" length", p.len as u64);
+            field(rt, b" remark at", p.start as u64);
+            field(rt, b" length", p.len as u64);
         }
         Remark::Refused(_) => {}
     }
 }
 
 // A search by a spelled name, and the part of the sheet that holds the name.
-fn finds(s: &[u8], spelled: &[u8]) {
-    says(calculator::locate(s, spelled));
-    tells(calculator::found_remark(s, spelled));
-    between(calculator::found_name(s, spelled));
+fn finds(rt: &impl Print, s: &[u8], spelled: &[u8]) {
+    says(rt, calculator::locate(s, spelled));
+    tells(rt, calculator::found_remark(s, spelled));
+    between(rt, calculator::found_name(s, spelled));
 }
 
-fn find(text: &[u8], from: usize) -> usize
+fn find(rt: &(impl Files + Print), text: &[u8], from: usize) -> usize
     ensures { from ≤ result }
 {
     let mut whole = room();
     let mut room = room();
-    let s = next_sheet(text, from, &mut whole);
+    let s = next_sheet(rt, text, from, &mut whole);
     let spelled = next_word(text, s.end, b' ', &mut room);
-    let end = label(text, spelled.end);
+    let end = label(rt, text, spelled.end);
     let n = s.len;
     let len = spelled.len;
-    finds(&whole[0..n], &room[0..len]);
+    finds(rt, &whole[0..n], &room[0..len]);
     end
 }
 
@@ -111,67 +116,67 @@ fn other_version(s: &[u8], out: &mut [u8], back: bool) -> Outcome {
 }
 
 // What becomes of a sheet, and the whole room.
-fn converts(s: &[u8], out: &mut [u8], back: bool) {
-    outcome(other_version(s, out, back));
-    whole(out);
+fn converts(rt: &impl Print, s: &[u8], out: &mut [u8], back: bool) {
+    outcome(rt, other_version(s, out, back));
+    whole(rt, out);
 }
 
-fn convert(text: &[u8], from: usize, back: bool) -> usize
+fn convert(rt: &(impl Files + Print), text: &[u8], from: usize, back: bool) -> usize
     ensures { from ≤ result }
 {
     let mut out = room_of(b'.');
     let mut room = room();
     let lent = next_word(text, from, b' ', &mut room);
-    let sheet = next_sheet(text, lent.end, &mut room);
-    let end = label(text, sheet.end);
+    let sheet = next_sheet(rt, text, lent.end, &mut room);
+    let end = label(rt, text, sheet.end);
     let n = (lent.number % 262145) as usize;
     let len = sheet.len;
-    converts(&room[0..len], &mut out[0..n], back);
+    converts(rt, &room[0..len], &mut out[0..n], back);
     end
 }
 
 // Runs the case at a place, which its first letter tells, or of b and f the first two, and gives the place of the next one.
-fn case(text: &[u8], at: usize) -> usize
+fn case(rt: &(impl Files + Print), text: &[u8], at: usize) -> usize
     requires { at < length text.now }
     ensures { at < result }
 {
     let mut room = room();
     let what = next_word(text, at + 1, b' ', &mut room);
     match text[at] {
-        b's' => state(text, what.end),
-        b'p' => vector_weights::weights(text, what.end, false),
-        b'm' => vector_weights::weights(text, what.end, true),
-        b'r' => vector_names::read(text, what.end),
-        b'w' => vector_names::write(text, what.end),
-        b'c' => check(text, what.end),
+        b's' => state(rt, text, what.end),
+        b'p' => vector_weights::weights(rt, text, what.end, false),
+        b'm' => vector_weights::weights(rt, text, what.end, true),
+        b'r' => vector_names::read(rt, text, what.end),
+        b'w' => vector_names::write(rt, text, what.end),
+        b'c' => check(rt, text, what.end),
         b'f' => {
             if room[0] == b'o' {
-                convert(text, what.end, false)
+                convert(rt, text, what.end, false)
             } else {
-                find(text, what.end)
+                find(rt, text, what.end)
             }
         }
         b'b' => {
             if room[0] == b'e' {
-                vector_growing::begin(text, what.end)
+                vector_growing::begin(rt, text, what.end)
             } else {
-                convert(text, what.end, true)
+                convert(rt, text, what.end, true)
             }
         }
-        b'n' => vector_growing::next(text, what.end),
-        b'a' => vector_growing::add(text, what.end),
-        b'd' => vector_growing::during(text, what.end),
-        _ => label(text, what.end),
+        b'n' => vector_growing::next(rt, text, what.end),
+        b'a' => vector_growing::add(rt, text, what.end),
+        b'd' => vector_growing::during(rt, text, what.end),
+        _ => label(rt, text, what.end),
     }
 }
 
-fn main() {
+fn main(rt: HostRuntime) {
     let mut room = room();
-    let n = io::read_full(STDIN_FILENO, &mut room);
+    let n = read_full(&mut rt.stdin(), &mut room);
     let text = &room[0..n];
     let mut at = 0;
     while at < text.len() {
-        at = case(text, at);
-        say(b"\n");
+        at = case(&rt, text, at);
+        say(&rt, b"\n");
     }
 }

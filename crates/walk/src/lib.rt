@@ -12,7 +12,7 @@ use sheet_search::Lookup;
 
 // How many records a walk has given, and how many the sheet had when it began.
 #[repr(C)]
-#[derive(Drop)]
+#[derive(Clone, Copy)]
 pub struct Walk {
     pub given: u32,
     pub count: u32,
@@ -20,7 +20,7 @@ pub struct Walk {
 
 // A walk that begins, or the number of the sheet's refusal.
 #[repr(C)]
-#[derive(Drop)]
+#[derive(Clone, Copy)]
 pub struct Begun {
     pub number: u32,
     pub walk: Walk,
@@ -28,7 +28,7 @@ pub struct Begun {
 
 // A step: a refusal's number, or the length of a line, which is 0 where no record is left; and the walk after it.
 #[repr(C)]
-#[derive(Drop)]
+#[derive(Clone, Copy)]
 pub struct Step {
     pub number: u32,
     pub length: usize,

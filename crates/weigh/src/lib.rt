@@ -2,6 +2,8 @@
 // Method: q = i/16 + r with r below 1/16; c = scale / e^(i/16) from two tables, v = scale * e^r from seven terms of the series,
 // and the weight is c / (c + v). scale is 1.8 * 10^11. Proved: within 2 units for every number of terms from 128 up.
 // A minus transition (document 02, request 3) has 10^10 / (1 - e^q), by c / (v - c): within 2 units from 1.9 on, on either side of 0.
+#![tactic(auto)]
+
 ghost use Rattle.std.specs.Prelude.{◌≡◌, ◌+◌, ◌*◌, ◌<◌, ◌≤◌, nat_abs, get_or};
 ghost use Rattle.weight.specs.Weight.{tolerance, IsWeight, IsMinusWeight};
 ghost use Rattle.weight.specs.Choice.{scale, wholes, sixteenths, inverse, exponential, portion, weight_of, minus_of, above_by, FarEnough};

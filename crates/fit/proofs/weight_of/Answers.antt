@@ -1,0 +1,34 @@
+-- `fit::weight_of` is the choice of weights for a transition, by its form.
+use mathlib.Core.Path.{sym, subst, ap, ◌∙◌}
+use lib.IntN.{ℤ}
+use Rattle.integer.proofs.Machine.{back, back_ok}
+use Rattle.weight.specs.Choice.{weight_by, Served}
+use Rattle.fit.specs.declared.Form.{Form}
+use Rattle.fit.specs.declared.Form.TheVariants.{Kept}
+use Rattle.fit.specs.Fit.{kept_in}
+use Rattle.fit.specs.Edge.{sign_of, limit_of}
+use Rattle.fit.proofs.Kept.{same_kept}
+use Rattle.fit.proofs.weight_of.Goals as goal
+
+-- the weight of a form at an exponent
+abbrev by : ℤ → Form → ℤ
+by q f = weight_by (sign_of f) (kept_in (limit_of f) q)
+
+pub weight_minus-requires : goal.weight_minus-requires
+weight_minus-requires c =
+    rw (back c.ranges.q) (subst (λ (f : Form). Served (sign_of f) (kept_in (limit_of f) c.args.q)) c.in-Minus.is c.requires)
+
+pub returns-in-Plus : goal.returns-in-Plus
+returns-in-Plus c =
+    back_ok c.weight.result c.weight.type_inv ∙ (rw (back c.ranges.q) at c.weight.ensures.value) ∙ ap (by c.args.q) (sym c.in-Plus.is)
+
+pub returns-in-Minus : goal.returns-in-Minus
+returns-in-Minus c =
+    back_ok c.weight_minus.result c.weight_minus.type_inv ∙ (rw (back c.ranges.q) at c.weight_minus.ensures.value) ∙ ap (by c.args.q) (sym c.in-Minus.is)
+
+pub returns-in-Kept : goal.returns-in-Kept
+returns-in-Kept c =
+    back_ok c.weight-in-Kept.result c.weight-in-Kept.type_inv
+    ∙ (rw (back c.ranges.q) at c.weight-in-Kept.ensures.value)
+    ∙ sym (same_kept (limit_of Kept) tt c.args.q)
+    ∙ ap (by c.args.q) (sym c.in-Kept.is)
