@@ -52,16 +52,16 @@ pub record PressureAt : Type 0 where
   -- half way through a transition, Z = 1.855
   pub hot : made 5615165897 16265 ≡ shows letter_p (pair (neg_ℤ (pos 6900008)) (pos 1855000)) (One (edge (pos 11508813354) (pos 4675093955))) Unjoined (pos 137800)
   -- each band's limit and a millionth more: the low band's, whose last piece has no B, the middle's, the high's in label 230's transition
-  pub low_limit_lem : made 384027735806 324536 ≡ shows letter_p (pair (neg_ℤ (pos 5600000)) (pos 3690000)) (One (edge (pos 11095534678) (pos 0))) Unjoined (pos 136537391)
+  pub at_low_limit : made 384027735806 324536 ≡ shows letter_p (pair (neg_ℤ (pos 5600000)) (pos 3690000)) (One (edge (pos 11095534678) (pos 0))) Unjoined (pos 136537391)
   pub past_low_limit : made 384028620063 324536 ≡ judges 17 letter_p (pair (neg_ℤ (pos 5600000)) (pos 3690001)) Unfitted
-  pub middle_limit_lem : made 196952996076 647533906 ≡ shows letter_p (pair (neg_ℤ (pos 2300000)) (pos 3400000)) (One (edge (pos 11653389658) (pos 9999845023))) Unjoined (pos 210862971470)
+  pub at_middle_limit : made 196952996076 647533906 ≡ shows letter_p (pair (neg_ℤ (pos 2300000)) (pos 3400000)) (One (edge (pos 11653389658) (pos 9999845023))) Unjoined (pos 210862971470)
   pub past_middle_limit : made 196953449578 647533906 ≡ judges 17 letter_p (pair (neg_ℤ (pos 2300000)) (pos 3400001)) Unfitted
-  pub high_limit_lem : made 62282005960 1026272079264 ≡ shows letter_p (pair (pos 900000) (pos 2900000)) (One (edge (pos 11941373868) (pos 9327837462))) Unjoined (pos 124089285773835)
-  pub past_high_limit : made 62282149369 1026272079264 ≡ judges 17 letter_p (pair (pos 900000) (pos 2900001)) Unfitted
+  pub at_limit : made 62282005960 1026272079264 ≡ shows letter_p (pair (pos 900000) (pos 2900000)) (One (edge (pos 11941373868) (pos 9327837462))) Unjoined (pos 124089285773835)
+  pub past_limit : made 62282149369 1026272079264 ≡ judges 17 letter_p (pair (pos 900000) (pos 2900001)) Unfitted
 
 pub pressure_at : PressureAt
 unfolding pressure_by pressure_of held_at log_of lg_of mantissa_of near_one chord_of factors factor_logs points rises count_leading_zeros bicubic gas1 gas2 gas3 gas4 exponent mul low_pieces middle_pieces high_pieces weight_of weight_above share minus_of minus_above minus_share exponential inverse square second third fourth fifth sixth
-pressure_at = record { standard = refl; minus = refl; kept = refl; constant = refl; joined = refl; warned = refl; hot = refl; low_limit_lem = refl; past_low_limit = refl; middle_limit_lem = refl; past_middle_limit = refl; high_limit_lem = refl; past_high_limit = refl }
+pressure_at = record { standard = refl; minus = refl; kept = refl; constant = refl; joined = refl; warned = refl; hot = refl; at_low_limit = refl; past_low_limit = refl; at_middle_limit = refl; past_middle_limit = refl; at_limit = refl; past_limit = refl }
 
 -- ---- the bounds: not above 1.01, 2 or more; less than 0.05 from zero, of a minus transition alone
 pub record Bounds : Type 0 where

@@ -1,4 +1,6 @@
 // A state more at the end of a sheet.
+#![tactic(auto)]
+
 ghost use Rattle.std.specs.Prelude.{cond, not, ◌≡◌, ◌+◌, ◌≤◌, length};
 ghost use Rattle.kind.specs.Kind.{kind_of, is_known};
 ghost use Rattle.octets.specs.Room.{outcome_of, written};

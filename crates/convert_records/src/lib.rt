@@ -1,4 +1,6 @@
 // A sheet's records in a version, with empty remarks.
+#![tactic(auto)]
+
 ghost use Rattle.std.specs.Prelude.{not, ◌++◌, ◌≡◌, ◌+◌, ◌≤◌, length, get_or, drop};
 ghost use Rattle.octets.specs.Bytes.{number_at};
 ghost use Rattle.octets.specs.Room.{fitting, written, put_at, outcome_of};

@@ -1,4 +1,6 @@
 // Entropy of an energy and a density.
+#![tactic(auto)]
+
 ghost use Rattle.std.specs.Prelude.{◌≡◌};
 ghost use Rattle.std.proofs.Math.Option.{some};
 ghost use Rattle.air.specs.declared.Edges.TheVariants.{Unfitted};

@@ -1,9 +1,7 @@
 -- What a flat answer carries, read back by its bits: nothing is lost on the way to C, and nothing is made up.
-use Rattle.std.specs.Prelude.{Bool, cond, ◌≡◌, ℕ, ◌/◌, ◌%◌, eqb, ℤ}
-use Rattle.std.proofs.Math.Option.{Option, none, some}
-use Rattle.air.specs.declared.Logs.{Logs}
+use Rattle.std.specs.Prelude.{Bool, cond, ◌≡◌, ℕ, ◌/◌, ◌%◌, eqb}
+use Rattle.std.proofs.Math.Option.{none, some}
 use Rattle.fit.specs.declared.Edge.{Edge}
-use Rattle.air.specs.declared.Edges.{Edges}
 use Rattle.air.specs.declared.Edges.TheVariants.{Unfitted, One, Two}
 use Rattle.air.specs.declared.Ends.{Ends}
 use Rattle.air.specs.declared.Ends.TheVariants.{Unjoined, Both}

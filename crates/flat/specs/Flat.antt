@@ -1,5 +1,5 @@
 -- What C gets of an answer: flat numbers, 0 where nothing is carried.
-use Rattle.std.specs.Prelude.{Bool, cond, ℕ, ◌+◌, ℤ, pos}
+use Rattle.std.specs.Prelude.{cond, ℕ, ◌+◌, ℤ, pos}
 use Rattle.std.proofs.Math.Option.{Option, none, some}
 use Rattle.air.specs.declared.Logs.{Logs}
 use Rattle.fit.specs.declared.Edge.{Edge}

@@ -1,4 +1,6 @@
 // What C gets of an answer: a flat struct.
+#![tactic(auto)]
+
 ghost use Rattle.std.specs.Prelude.{◌≡◌, cond, ◌≤◌};
 ghost use Rattle.air.specs.Held.{held};
 ghost use Rattle.flat.specs.Flat.{low_value, high_value, flat_edges, assembled, flat};

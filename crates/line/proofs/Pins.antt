@@ -1,5 +1,5 @@
 -- Document 01, Listing program, computed: the letter, Y, Z and the value in this order; a refusal; a name that cannot be read.
-use mathlib.Core.List.{List, [], ◌∷◌}
+use mathlib.Core.List.{[], ◌∷◌}
 use mathlib.Core.Path.{◌≡◌, refl}
 use lib.IntN.{pos, negsuc}
 use Rattle.decimal.specs.Decimal.{digits, natural, whole}

@@ -1,4 +1,6 @@
 // A line of the listing, built in 192 bytes: a name as it is shown, and what is held under it.
+#![tactic(auto)]
+
 ghost use Rattle.std.specs.Prelude.{◌≡◌, ◌+◌, ◌≤◌, true, length, take, [], ◌∷◌};
 ghost use Rattle.std.proofs.lemmas.List.Edits.{sets};
 ghost use Rattle.air.specs.Held.{held};

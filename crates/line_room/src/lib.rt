@@ -1,4 +1,6 @@
 // A line in lent room.
+#![tactic(auto)]
+
 ghost use Rattle.std.specs.Prelude.{◌++◌, ◌≡◌, ◌+◌, ◌≤◌, length, take, drop};
 ghost use Rattle.line.specs.Line.{refusal_rest};
 ghost use Rattle.octets.specs.Room.{fitting, written, outcome_of};

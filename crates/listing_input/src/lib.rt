@@ -1,7 +1,8 @@
 // Reading the two inputs to their ends, into lent rooms.
 #![tactic(auto)]
 
-ghost use Rattle.std.specs.Prelude.{◌≡◌, ◌+◌, ◌<◌, ◌≤◌, length};
+ghost use Rattle.std.specs.Prelude.{◌≡◌, ◌+◌, ◌<◌, ◌≤◌, length, take, drop};
+ghost use Rattle.std.specs.Io.KnownBytes.{Consumes};
 ghost use Rattle.listing_input.specs.Input.{IsPrefixLen, ToEnd};
 
 use complaint::complain;
@@ -34,7 +35,9 @@ fn read_some<I: Read>(
     at: usize,
 ) -> usize
     requires { at ≤ length room.old }
-    ensures { at + result ≤ length room.old }
+    ensures upper_bound { at + result ≤ length room.old }
+    ensures bytes { Consumes (I.remaining input.old) (I.remaining input.new) (take result (drop at room.new)) }
+    ensures front { take at room.new ≡ take at room.old }
 {
     match input.read(&mut room[at..]) {
         Ok(n) => n,
@@ -50,6 +53,7 @@ fn read_to_end<I: Read>(rt: &impl Eprint, input: &mut I, complaint: &str, room: 
     requires { 65536 < length room.old }
     ensures prefix_len { IsPrefixLen result.len room.new }
     ensures to_end { ToEnd result }
+    ensures bytes { Consumes (I.remaining input.old) (I.remaining input.new) (take result.len room.new) }
 {
     let mut len = 0;
     loop {
@@ -81,6 +85,7 @@ pub fn read_list<I: Read>(rt: &impl Eprint, input: &mut I, room: &mut [u8]) -> I
     requires { 65536 < length room.old }
     ensures prefix_len { IsPrefixLen result.len room.new }
     ensures to_end { ToEnd result }
+    ensures bytes { Consumes (I.remaining input.old) (I.remaining input.new) (take result.len room.new) }
 {
     read_to_end(rt, input, "listing: standard input: cannot be read", room)
 }

@@ -1,5 +1,7 @@
--- What the listing program keeps account of its output. The kit tells how many bytes a write took, not which.
+-- What the listing program keeps account of its output.
 use Rattle.std.specs.Prelude.{false, List, ◌≡◌, ℕ, ◌≤◌, length}
+use Rattle.std.specs.Prelude.{◌-◌, Option}
+use Rattle.std.specs.Io.KnownBytes.{Appends}
 use Rattle.octets.specs.Bytes.{part}
 use Rattle.listing_output.specs.declared.Written.{Written}
 
@@ -11,3 +13,7 @@ Next listing done bytes = bytes ≡ part listing done (length bytes)
 pub record Reached (end : ℕ) (w : Written) : Type 0 where
   pub inside : w.done ≤ end
   pub whole : w.failed ≡ false → w.done ≡ end
+
+-- an output, where it tells what it holds, took the bytes of a listing from a place up to another
+abbrev pub Takes : Option (List ℕ) → Option (List ℕ) → List ℕ → ℕ → ℕ → Type 0
+Takes old new listing from end = Appends old new (part listing from (end - from))

@@ -4,7 +4,7 @@
 ghost use Rattle.std.specs.Prelude.{false, ◌≡◌, ◌+◌, ◌<◌, ◌≤◌, length};
 ghost use Rattle.air.specs.Choices.{chosen};
 ghost use Rattle.report.specs.Listing.{listing_by};
-ghost use Rattle.listing_output.specs.Output.{Next, Reached};
+ghost use Rattle.listing_output.specs.Output.{Next, Reached, Takes};
 
 use complaint::complain;
 use std::io::{Error, ErrorKind, Write};
@@ -48,6 +48,7 @@ fn write_some<W: Write>(
     requires bytes_bound { account.done + length bytes.now < 18446744073709551616 }
     ensures done_le_done { (account.done ≤ result.done) × (result.done ≤ account.done + length bytes.now) }
     ensures done_lt_done { result.failed ≡ false → account.done < result.done }
+    ensures bytes { Takes (W.contents output.old) (W.contents output.new) (listing_by chosen sheet.now list.now) account.done result.done }
 {
     let taken = match output.write(bytes) {
         Ok(0) => {
@@ -86,7 +87,8 @@ pub fn write_next<W: Write>(
 ) -> Written
     requires next { Next (listing_by chosen sheet.now list.now) account.done bytes.now }
     requires failed_value { (account.failed ≡ false) × (account.done + length bytes.now < 18446744073709551616) }
-    ensures { Reached (account.done + length bytes.now) result }
+    ensures reached { Reached (account.done + length bytes.now) result }
+    ensures bytes { Takes (W.contents output.old) (W.contents output.new) (listing_by chosen sheet.now list.now) account.done result.done }
 {
     let mut written = account;
     let mut at = 0;

@@ -1,4 +1,6 @@
 // Plot marks: a state's answer as a point of two doubles, or a blank.
+#![tactic(auto)]
+
 ghost use Rattle.std.specs.Prelude.{◌≡◌};
 ghost use Rattle.std.specs.Int.Signed.{shr_z};
 ghost use Rattle.air.specs.Held.{held};

@@ -1,9 +1,8 @@
 -- Where the numbers of a pressure lie, from its taken logarithms.
-use Prim.Native.Nat.{ℕ, ◌^◌, ◌≤◌}
+use Prim.Native.Nat.{ℕ, ◌^◌}
 use mathlib.Core.Path.{◌≡◌}
 use lib.Dec.{leb, leb→le}
 use lib.IntN.{ℤ}
-use lib.Signed.{◌≤ℤ◌}
 use Rattle.integer.specs.Laws.{≤ℤ-trans}
 use Rattle.bands.specs.declared.Strip.TheVariants as strip
 use Rattle.bands.specs.Bands.{strip_of}

@@ -1,4 +1,6 @@
 // Gamma at a place: its fit, whether 17 refuses it, and the pressure that it makes.
+#![tactic(auto)]
+
 ghost use Rattle.std.specs.Prelude.{false, ◌||◌, ◌≡◌};
 ghost use Rattle.air.specs.Places.{edge_by};
 ghost use Rattle.air.specs.Choices.{chosen};

@@ -89,12 +89,12 @@ hot_pressure = shown pressure_at.hot
 
 pub low_limit_pressure : Covered 3 384027735806 324536
 unfolding answer_by
-low_limit_pressure = shown pressure_at.low_limit_lem
+low_limit_pressure = shown pressure_at.at_low_limit
 
 pub middle_limit_pressure : Covered 3 196952996076 647533906
 unfolding answer_by
-middle_limit_pressure = shown pressure_at.middle_limit_lem
+middle_limit_pressure = shown pressure_at.at_middle_limit
 
-pub high_limit_pressure : Covered 3 62282005960 1026272079264
+pub limit_pressure : Covered 3 62282005960 1026272079264
 unfolding answer_by
-high_limit_pressure = shown pressure_at.high_limit_lem
+limit_pressure = shown pressure_at.at_limit

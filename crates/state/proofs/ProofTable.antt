@@ -1,5 +1,4 @@
 -- Document 01, Proof table: the twelve rows hold.
-use mathlib.Core.List.{[]}
 use mathlib.Core.Option.{some}
 use mathlib.Core.Path.{◌≡◌, refl}
 use lib.IntN.{pos}

@@ -1,4 +1,6 @@
 // Temperature of a pressure and a density.
+#![tactic(auto)]
+
 ghost use Rattle.std.specs.Prelude.{◌≡◌};
 ghost use Rattle.std.proofs.Math.Option.{some};
 ghost use Rattle.bands.specs.Bands.{strip_of};

@@ -1,4 +1,6 @@
 // A temperature joined between the edges of a strip.
+#![tactic(auto)]
+
 ghost use Rattle.std.specs.Prelude.{◌≡◌};
 ghost use Rattle.bands.specs.declared.Strip.TheVariants.{Between};
 ghost use Rattle.air.specs.Held.{held};

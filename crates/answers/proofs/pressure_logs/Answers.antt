@@ -1,34 +1,30 @@
 -- `answers::pressure_logs` tests the ranges and takes the logarithms.
-use mathlib.Core.Bool.{Bool, true, false, not}
-use mathlib.Core.Path.{◌≡◌, refl, sym, ap, ◌∙◌, subst}
-use Prim.Native.Nat.{ℕ, ◌+◌, ◌^◌, ◌≤◌, ◌<◌}
+use mathlib.Core.Bool.{true}
+use mathlib.Core.Path.{◌≡◌, sym, ap, ◌∙◌}
+use Prim.Native.Nat.{◌^◌, ◌<◌}
 use native.Mathlib.Omega.{arith}
-use borrow.Author.Rules.{rules}
-use borrow.Author.Tests.{not-true, not-false}
-use lib.Dec.{lit<}
-use lib.IntN.{ℤ, nat_abs, ◌-ℤ◌}
+use lib.IntN.{nat_abs, ◌-ℤ◌}
 use mir.Syntax.{w64}
 use mir.Val.{to_z, of_z}
 use Rattle.integer.specs.Laws.{abs--}
 use Rattle.logarithm.specs.Choice.{log_of}
 use Rattle.logarithm.proofs.Ratios.{log_small}
 use Rattle.integer.proofs.Machine.{back, back_ok, fits64}
-use Rattle.air.specs.declared.Logs.{Logs}
 use Rattle.air.specs.Quantities.{P0, D0, is_pressure, is_density}
 use Rattle.air.specs.Choices.{chosen}
 use Rattle.air.specs.Carried.{pressure_logs}
 use Rattle.air.proofs.Tests.{at_least}
 use Rattle.answers.specs.declared.Taken.TheVariants.{Carried}
-use Rattle.answers.proofs.Verdicts.{first_beyond, second_beyond, both_carried}
+use Rattle.answers.proofs.Verdicts.{both_carried}
 use Rattle.answers.proofs.pressure_logs.Goals as goal
 use Rattle.answers.proofs.pressure_logs.Goals.{After-log10_ratio-x, After-log10_ratio-y, Else-not-within, Else-not-within-2}
 
 -- ---- the ranges
 pressure : (c : Else-not-within) → is_pressure c.args.p ≡ true
-pressure c = sym c.within.ensures ∙ not-false _ c.if-not-within.false
+pressure c = sym c.within.ensures ∙ c.if-not-within.false
 
 density : (c : Else-not-within-2) → is_density c.args.d ≡ true
-density c = sym c.within-2.ensures ∙ not-false _ c.if-not-within-2.false
+density c = sym c.within-2.ensures ∙ c.if-not-within-2.false
 
 -- ---- the logarithms
 x_is : (c : After-log10_ratio-x) → to_z w64 (of_z w64 c.log10_ratio-x.result) ≡ log_of c.args.p P0
@@ -56,20 +52,6 @@ logs_are : (c : After-log10_ratio-y) → record {
 }
     ≡ pressure_logs chosen c.args.p c.args.d
 logs_are c = rw (x_is c.before, y_is c, back (fits64 _ (differences_fit c).0))
-
-pub returns-then-not-within : goal.returns-then-not-within
-returns-then-not-within c =
-    first_beyond (is_pressure c.args.p) (is_density c.args.d) _ (sym c.within.ensures ∙ not-true _ c.if-not-within.true)
-
-pub returns-then-not-within-2 : goal.returns-then-not-within-2
-returns-then-not-within-2 c =
-    second_beyond (is_pressure c.args.p) (is_density c.args.d) _ (pressure (goal.at.returns-then-not-within-2 c).Else-not-within) (sym c.within-2.ensures ∙ not-true _ c.if-not-within-2.true)
-
-pub log10_ratio-x-requires : goal.log10_ratio-x-requires
-log10_ratio-x-requires c = (omega (arith, at_least 1 (10 ^ 17) c.args.p (pressure (goal.at.log10_ratio-x-requires c).Else-not-within)), lit< tt)
-
-pub log10_ratio-y-requires : goal.log10_ratio-y-requires
-log10_ratio-y-requires c = (omega (arith, at_least 12920 129200000000000 c.args.d (density (goal.at.log10_ratio-y-requires c).Else-not-within-2)), lit< tt)
 
 pub overflow_sub-result : goal.overflow_sub-result
 overflow_sub-result c = rw (x_is (goal.at.overflow_sub-result c).After-log10_ratio-x, y_is c) (fits64 _ (omega (arith, differences_fit c)))

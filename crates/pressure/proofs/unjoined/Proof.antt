@@ -26,7 +26,7 @@ y_fits s = search rules
 z_fits : (s : tie.Start) → SFits w64 s.args.logs.z
 z_fits s = search rules
 
-abbrev start : tie.After-is-warned → tie.Start
+abbrev start : tie.After-is_warned → tie.Start
 start c = c.before.before.before
 
 -- the fit at the state's own place
@@ -51,98 +51,87 @@ by_logs_lem s =
     let r = own_ready s.requires in
     warned_only s.args.logs.y s.args.logs.z (record { density = record { least = r.y_least; most = r.y_most }; least = r.z_least })
 
-warned : (c : tie.After-is-warned) → c.is-warned.result ≡ is_warned (start c).args.logs.y (start c).args.logs.z
-warned c = let s = start c in rw (back (y_fits s), back (z_fits s)) at c.is-warned.ensures
+warned : (c : tie.After-is_warned) → c.is_warned.result ≡ is_warned (start c).args.logs.y (start c).args.logs.z
+warned c = let s = start c in rw (back (y_fits s), back (z_fits s)) at c.is_warned.ensures
 
-is-warned-requires : tie.Need-is-warned-requires
-is-warned-requires c κs = search rules
+is_warned-requires : tie.Need-is_warned-requires
+is_warned-requires c κs = search rules
 
 judged-requires : tie.Need-judged-requires
 judged-requires c κs = search rules
 
-returns : tie.Need-returns
+returns-then-is_warned : tie.Need-returns-then-is_warned
 unfolding verdict
-returns c =
+returns-then-is_warned c =
     let i = c.before.before in
     let s = start i in
     c.judged.ensures
-    ∙ ap (λ (t : Bool). verdict s t (beyond_gamma (own s).fit)) (sym c.before.if1.true ∙ warned i ∙ sym (by_logs_lem s))
+    ∙ ap (λ (t : Bool). verdict s t (beyond_gamma (own s).fit)) (sym c.before.if-is_warned.true ∙ warned i ∙ sym (by_logs_lem s))
     ∙ verdict_is s
 
 -- ---- gamma
-clear : (c : tie.Else1) → is_warned (start c.before).args.logs.y (start c.before).args.logs.z ≡ false
-clear c = sym (warned c.before) ∙ c.if1.false
+clear : (c : tie.Else-is_warned) → is_warned (start c.before).args.logs.y (start c.before).args.logs.z ≡ false
+clear c = sym (warned c.before) ∙ c.if-is_warned.false
 
-gamma-at-requires : tie.Need-gamma-at-requires
-gamma-at-requires c κs = let s = start c.before in rw (back (y_fits s), back (z_fits s)) (own_ready s.pre, clear c)
+gamma_at-edge-requires : tie.Need-gamma_at-edge-requires
+gamma_at-edge-requires c κs = let s = start c.before in rw (back (y_fits s), back (z_fits s)) (own_ready s.requires, clear c)
 
-edge : (c : tie.After-gamma-at) → c.gamma_at_lem.result ≡ own (start c.before.before)
-edge c = let s = start c.before.before in rw (back (y_fits s), back (z_fits s)) at c.gamma_at_lem.ensures
+edge : (c : tie.After-gamma_at-edge) → c.gamma_at-edge.result ≡ own (start c.before.before)
+edge c = let s = start c.before.before in rw (back (y_fits s), back (z_fits s)) at c.gamma_at-edge.ensures
 
-gamma_fits : (c : tie.After-gamma-at) → SFits w64 c.gamma_at_lem.result.fit
+gamma_fits : (c : tie.After-gamma_at-edge) → SFits w64 c.gamma_at-edge.result.fit
 gamma_fits c = search rules
 
-is-beyond-requires : tie.Need-is-beyond-requires
-is-beyond-requires c κs = search rules
+is_beyond-requires : tie.Need-is_beyond-requires
+is_beyond-requires c κs = search rules
 
-beyond : (c : tie.After-is-beyond) → c.is-beyond.result ≡ beyond_gamma (own (start c.before.before.before.before)).fit
+beyond : (c : tie.After-is_beyond) → c.is_beyond.result ≡ beyond_gamma (own (start c.before.before.before.before)).fit
 beyond c =
     let k = c.before.before in
-    (rw (back (gamma_fits k)) at c.is-beyond.ensures) ∙ ap (λ (x : Edge). beyond_gamma x.fit) (edge k)
+    (rw (back (gamma_fits k)) at c.is_beyond.ensures) ∙ ap (λ (x : Edge). beyond_gamma x.fit) (edge k)
 
-judged-requires-2 : tie.Need-judged-requires-2
-judged-requires-2 c κs = search rules
+judged-requires-then-is_beyond : tie.Need-judged-requires-then-is_beyond
+judged-requires-then-is_beyond c κs = search rules
 
-returns-2 : tie.Need-returns-2
+returns-then-is_beyond : tie.Need-returns-then-is_beyond
 unfolding verdict
-returns-2 c =
+returns-then-is_beyond c =
     let b = c.before.before in
     let k = b.before.before in
     let i = k.before in
     let s = start i.before in
-    c.judged2.ensures
+    c.judged-then-is_beyond.ensures
     ∙ ap (λ (x : Edge). judges 17 letter_p s.args.logs (One x)) (edge k)
-    ∙ ap₂ (verdict s) (sym (clear i) ∙ sym (by_logs_lem s)) (sym c.before.if2.true ∙ beyond b)
+    ∙ ap₂ (verdict s) (sym (clear i) ∙ sym (by_logs_lem s)) (sym c.before.if-is_beyond.true ∙ beyond b)
     ∙ verdict_is s
 
 -- ---- the pressure
-stays : (c : tie.Else2) → beyond_gamma (own (start c.before.before.before.before.before)).fit ≡ false
-stays c = sym (beyond c.before) ∙ c.if2.false
+stays : (c : tie.Else-is_beyond) → beyond_gamma (own (start c.before.before.before.before.before)).fit ≡ false
+stays c = sym (beyond c.before) ∙ c.if-is_beyond.false
 
-pressure-of-requires : tie.Need-pressure-of-requires
-pressure-of-requires c κs =
+pressure_of-value-requires : tie.Need-pressure_of-value-requires
+pressure_of-value-requires c κs =
     let k = c.before.before.before in
     let s = start k.before.before in
-    rw (back (gamma_fits k), ap (λ (x : Edge). x.fit) (edge k)) (values_ready s.pre, stays c)
+    rw (back (gamma_fits k), ap (λ (x : Edge). x.fit) (edge k)) (values_ready s.requires, stays c)
 
 shown-requires : tie.Need-shown-requires
 shown-requires c κs = search rules
 
-returns-3 : tie.Need-returns-3
+returns : tie.Need-returns
 unfolding verdict
-returns-3 c =
+returns c =
     let p = c.before in
     let b = p.before in
     let k = b.before.before.before in
     let i = k.before in
     let s = start i.before in
-    (rw (back_ok p.pressure-of.result p.pressure-of.type-inv) at c.shown.ensures)
-    ∙ ap (λ (v : ℤ). shows letter_p s.args.logs (One k.gamma_at_lem.result) Unjoined v) (rw (back (gamma_fits k)) at p.pressure-of.ensures)
+    (rw (back_ok p.pressure_of-value.result p.pressure_of-value.type_inv) at c.shown.ensures)
+    ∙ ap (λ (v : ℤ). shows letter_p s.args.logs (One k.gamma_at-edge.result) Unjoined v) (rw (back (gamma_fits k)) at p.pressure_of-value.ensures)
     ∙ ap (λ (x : Edge). shows letter_p s.args.logs (One x) Unjoined (pressure_of s.args.e s.args.d x.fit)) (edge k)
     ∙ ap₂ (verdict s) (sym (clear i) ∙ sym (by_logs_lem s)) (sym (stays b))
     ∙ verdict_is s
 
-pub unjoined-spec : {M : Type 1} → statement M
-unjoined-spec =
-    tie.close
-    (tie.spec
-    is-warned-requires
-    judged-requires
-    returns
-    gamma-at-requires
-    is-beyond-requires
-    judged-requires-2
-    returns-2
-    pressure-of-requires
-    shown-requires
-    returns-3)
+pub unjoined_spec : {M : Type 1} → statement M
+unjoined_spec =
+    tie.close (tie.spec is_warned-requires judged-requires returns-then-is_warned gamma_at-edge-requires is_beyond-requires judged-requires-then-is_beyond returns-then-is_beyond pressure_of-value-requires shown-requires returns)

@@ -31,7 +31,7 @@ held n = to_z w64 (of_z w64 n)
 z_fits : (s : tie.Start) → SFits w64 s.args.logs.z
 z_fits s = search rules
 
-abbrev start : tie.After-is-either-warned → tie.Start
+abbrev start : tie.After-is_either_warned → tie.Start
 start c = c.before.before
 
 -- ---- the warning
@@ -43,11 +43,11 @@ by_logs_lem : (s : tie.Start) → let z = s.args.logs.z in
     (beyond_gamma_logs s.args.a z || beyond_gamma_logs s.args.b z) ≡ (is_warned s.args.a z || is_warned s.args.b z)
 by_logs_lem s = let z = s.args.logs.z in ap₂ (λ (t u : Bool). t || u) (warned_only s.args.a z (box s.requires.low)) (warned_only s.args.b z (box s.requires.high))
 
-warned : (c : tie.After-is-either-warned) → let s = start c in c.is-either-warned.result ≡ (is_warned s.args.a s.args.logs.z || is_warned s.args.b s.args.logs.z)
-warned c = let s = start c in rw (back s.fits.a, back s.fits.b, back (z_fits s)) at c.is-either-warned.ensures
+warned : (c : tie.After-is_either_warned) → let s = start c in c.is_either_warned.result ≡ (is_warned s.args.a s.args.logs.z || is_warned s.args.b s.args.logs.z)
+warned c = let s = start c in rw (back s.ranges.a, back s.ranges.b, back (z_fits s)) at c.is_either_warned.ensures
 
-is-either-warned-requires : tie.Need-is-either-warned-requires
-is-either-warned-requires c κs = search rules
+is_either_warned-requires : tie.Need-is_either_warned-requires
+is_either_warned-requires c κs = search rules
 
 judged-requires : tie.Need-judged-requires
 judged-requires c κs = search rules
@@ -64,42 +64,42 @@ verdict_is : (s : tie.Start) → verdict s (beyond_gamma_logs s.args.a s.args.lo
 unfolding verdict held_at
 verdict_is s = refl
 
-returns : tie.Need-returns
+returns-then-is_either_warned : tie.Need-returns-then-is_either_warned
 unfolding verdict
-returns c =
+returns-then-is_either_warned c =
     let i = c.before.before in
     let s = start i in
-    c.judged.ensures ∙ ap (verdict s) (sym c.before.if1.true ∙ warned i ∙ sym (by_logs_lem s)) ∙ verdict_is s
+    c.judged.ensures ∙ ap (verdict s) (sym c.before.if-is_either_warned.true ∙ warned i ∙ sym (by_logs_lem s)) ∙ verdict_is s
 
 -- ---- gamma at both edges
-none : (c : tie.Else1) → let s = start c.before in (is_warned s.args.a s.args.logs.z || is_warned s.args.b s.args.logs.z) ≡ false
-none c = sym (warned c.before) ∙ c.if1.false
+none : (c : tie.Else-is_either_warned) → let s = start c.before in (is_warned s.args.a s.args.logs.z || is_warned s.args.b s.args.logs.z) ≡ false
+none c = sym (warned c.before) ∙ c.if-is_either_warned.false
 
-gamma-at-requires : tie.Need-gamma-at-requires
-gamma-at-requires c κs =
+gamma_at-low-requires : tie.Need-gamma_at-low-requires
+gamma_at-low-requires c κs =
     let s = start c.before in
     let z = s.args.logs.z in
-    rw (back s.fits.a, back (z_fits s)) (s.pre.low, or_left (is_warned s.args.a z) (is_warned s.args.b z) (none c))
+    rw (back s.ranges.a, back (z_fits s)) (s.requires.low, or_left (is_warned s.args.a z) (is_warned s.args.b z) (none c))
 
 -- the lower edge's place is as ready as the upper's
-gamma-at-requires-2 : tie.Need-gamma-at-requires-2
-gamma-at-requires-2 c κs =
+gamma_at-high-requires : tie.Need-gamma_at-high-requires
+gamma_at-high-requires c κs =
     let s = start c.before.before in
     let z = s.args.logs.z in
     let no = none c.before in
-    let lo : GammaReady (held s.args.a) (held z) = rw (back s.fits.a, back (z_fits s)) s.pre.low in
-    let hi : GammaReady (held s.args.b) (held z) = rw (back s.fits.b, back (z_fits s)) s.pre.high in
-    let lo-stays : is_warned (held s.args.a) (held z) ≡ false = rw (back s.fits.a, back (z_fits s)) (or_left (is_warned s.args.a z) (is_warned s.args.b z) no) in
-    let hi-stays : is_warned (held s.args.b) (held z) ≡ false = rw (back s.fits.b, back (z_fits s)) (or_right (is_warned s.args.a z) (is_warned s.args.b z) no) in
+    let lo : GammaReady (held s.args.a) (held z) = rw (back s.ranges.a, back (z_fits s)) s.requires.low in
+    let hi : GammaReady (held s.args.b) (held z) = rw (back s.ranges.b, back (z_fits s)) s.requires.high in
+    let lo-stays : is_warned (held s.args.a) (held z) ≡ false = rw (back s.ranges.a, back (z_fits s)) (or_left (is_warned s.args.a z) (is_warned s.args.b z) no) in
+    let hi-stays : is_warned (held s.args.b) (held z) ≡ false = rw (back s.ranges.b, back (z_fits s)) (or_right (is_warned s.args.a z) (is_warned s.args.b z) no) in
     search rules
 
-low : (c : tie.After-gamma-at) → let s = start c.before.before in c.gamma_at_lem.result ≡ edge_by chosen (gamma_at s.args.a s.args.logs.z) s.args.a s.args.logs.z
-low c = let s = start c.before.before in rw (back s.fits.a, back (z_fits s)) at c.gamma_at_lem.ensures
+low : (c : tie.After-gamma_at-low) → let s = start c.before.before in c.gamma_at-low.result ≡ edge_by chosen (gamma_at s.args.a s.args.logs.z) s.args.a s.args.logs.z
+low c = let s = start c.before.before in rw (back s.ranges.a, back (z_fits s)) at c.gamma_at-low.ensures
 
-high : (c : tie.After-gamma-at2) → let s = start c.before.before.before in c.gamma-at2.result ≡ edge_by chosen (gamma_at s.args.b s.args.logs.z) s.args.b s.args.logs.z
+high : (c : tie.After-gamma_at-high) → let s = start c.before.before.before in c.gamma_at-high.result ≡ edge_by chosen (gamma_at s.args.b s.args.logs.z) s.args.b s.args.logs.z
 high c =
     let s = start c.before.before.before in
-    c.gamma-at2.ensures ∙ ap₂ (λ (y x : ℤ). edge_by chosen (gamma_at y x) y x) (back s.fits.b) (back (z_fits s))
+    c.gamma_at-high.ensures ∙ ap₂ (λ (y x : ℤ). edge_by chosen (gamma_at y x) y x) (back s.ranges.b) (back (z_fits s))
 
 y_in : {y z : ℤ} → GammaReady y z → In 25 y
 y_in {y} r = in_25 y (abs_of 6999999 3000000 y r.y_least r.y_most 7000000 (lit≤ tt) (lit≤ tt))
@@ -107,29 +107,21 @@ y_in {y} r = in_25 y (abs_of 6999999 3000000 y r.y_least r.y_most 7000000 (lit�
 line-requires : tie.Need-line-requires
 line-requires c κs =
     let s = start c.before.before.before in
-    rw (back s.fits.a, back s.fits.b)
-    (record { between = s.pre.between; low = y_in s.pre.low; high = y_in s.pre.high; energy = s.pre.energy; density = s.pre.density })
+    rw (back s.ranges.a, back s.ranges.b)
+    (record { between = s.requires.between; low = y_in s.requires.low; high = y_in s.requires.high; energy = s.requires.energy; density = s.requires.density })
 
-returns-2 : tie.Need-returns-2
+returns : tie.Need-returns
 unfolding verdict
-returns-2 c =
+returns c =
     let h = c.before in
     let k = h.before in
     let i = k.before in
     let s = start i.before in
-    (rw (back s.fits.a, back s.fits.b) at c.line.ensures)
+    (rw (back s.ranges.a, back s.ranges.b) at c.line.ensures)
     ∙ ap₂ (λ (x y : Edge). line_of s.args.e s.args.d s.args.a s.args.b s.args.logs x y) (low k) (high h)
     ∙ ap (verdict s) (sym (none i) ∙ sym (by_logs_lem s))
     ∙ verdict_is s
 
-pub joined-spec : {M : Type 1} → statement M
-joined-spec =
-    tie.close
-    (tie.spec
-    is-either-warned-requires
-    judged-requires
-    returns
-    gamma-at-requires
-    gamma-at-requires-2
-    line-requires
-    returns-2)
+pub joined_spec : {M : Type 1} → statement M
+joined_spec =
+    tie.close (tie.spec is_either_warned-requires judged-requires returns-then-is_either_warned gamma_at-low-requires gamma_at-high-requires line-requires returns)

@@ -1,5 +1,5 @@
 -- `pressure_join::line` refuses either gamma, or goes straight between their pressures.
-use mathlib.Core.Bool.{Bool, true, false, true≢false, cond, ◌||◌}
+use mathlib.Core.Bool.{Bool, false, true≢false, cond, ◌||◌}
 use mathlib.Core.Path.{◌≡◌, sym, ap, ap₂, ◌∙◌}
 use native.Mathlib.Nat.{lt_of_le_of_lt}
 use native.Mathlib.Omega.{arith}
@@ -25,8 +25,8 @@ use Rattle.pressure_fit.proofs.Gammas.{passes, pressure_small}
 use Rattle.pressure_join.proofs.line.Statement.{statement}
 use Rattle.pressure_join.proofs.line.Tie as tie
 
-is-either-beyond-requires : tie.Need-is-either-beyond-requires
-is-either-beyond-requires c κs = search rules
+is_either_beyond-requires : tie.Need-is_either_beyond-requires
+is_either_beyond-requires c κs = search rules
 
 -- the machine's form of a number
 abbrev held : ℤ → ℤ
@@ -45,11 +45,11 @@ low_fits s = search rules
 high_fits : (s : tie.Start) → SFits w64 (high s)
 high_fits s = search rules
 
-abbrev start : tie.After-is-either-beyond → tie.Start
+abbrev start : tie.After-is_either_beyond → tie.Start
 start c = c.before.before.before
 
-beyond : (c : tie.After-is-either-beyond) → c.is-either-beyond.result ≡ (beyond_gamma (low (start c)) || beyond_gamma (high (start c)))
-beyond c = rw (back (low_fits (start c)), back (high_fits (start c))) at c.is-either-beyond.ensures
+beyond : (c : tie.After-is_either_beyond) → c.is_either_beyond.result ≡ (beyond_gamma (low (start c)) || beyond_gamma (high (start c)))
+beyond c = rw (back (low_fits (start c)), back (high_fits (start c))) at c.is_either_beyond.ensures
 
 -- ---- 17
 verdict : (s : tie.Start) → Bool → Held
@@ -62,36 +62,36 @@ verdict s t =
 judged-requires : tie.Need-judged-requires
 judged-requires c κs = search rules
 
-returns : tie.Need-returns
+returns-then-is_either_beyond : tie.Need-returns-then-is_either_beyond
 unfolding verdict
-returns c =
+returns-then-is_either_beyond c =
     let i = c.before.before in
-    c.judged.ensures ∙ ap (verdict (start i)) (sym c.before.if1.true ∙ beyond i)
+    c.judged.ensures ∙ ap (verdict (start i)) (sym c.before.if-is_either_beyond.true ∙ beyond i)
 
 -- ---- the edges' pressures
-stay : (c : tie.Else1) → (beyond_gamma (low (start c.before)) || beyond_gamma (high (start c.before))) ≡ false
-stay c = sym (beyond c.before) ∙ c.if1.false
+stay : (c : tie.Else-is_either_beyond) → (beyond_gamma (low (start c.before)) || beyond_gamma (high (start c.before))) ≡ false
+stay c = sym (beyond c.before) ∙ c.if-is_either_beyond.false
 
-low_stays : (c : tie.Else1) → beyond_gamma (low (start c.before)) ≡ false
+low_stays : (c : tie.Else-is_either_beyond) → beyond_gamma (low (start c.before)) ≡ false
 low_stays c = or_left (beyond_gamma (low (start c.before))) (beyond_gamma (high (start c.before))) (stay c)
 
-high_stays : (c : tie.Else1) → beyond_gamma (high (start c.before)) ≡ false
+high_stays : (c : tie.Else-is_either_beyond) → beyond_gamma (high (start c.before)) ≡ false
 high_stays c = or_right (beyond_gamma (low (start c.before))) (beyond_gamma (high (start c.before))) (stay c)
 
 values : (s : tie.Start) → ValuesReady s.args.e s.args.d
 values s = record { energy = s.requires.energy; density = omega (arith, s.requires.density) }
 
-pressure-of-requires : tie.Need-pressure-of-requires
-pressure-of-requires c κs = let s = start c.before in rw (back (low_fits s)) (values s, low_stays c)
+pressure_of-s-requires : tie.Need-pressure_of-s-requires
+pressure_of-s-requires c κs = let s = start c.before in rw (back (low_fits s)) (values s, low_stays c)
 
-pressure-of-requires-2 : tie.Need-pressure-of-requires-2
-pressure-of-requires-2 c κs = let s = start c.before.before in rw (back (high_fits s)) (values s, high_stays c.before)
+pressure_of-t-requires : tie.Need-pressure_of-t-requires
+pressure_of-t-requires c κs = let s = start c.before.before in rw (back (high_fits s)) (values s, high_stays c.before)
 
-low_is : (c : tie.After-pressure-of) → let s = start c.before.before in c.pressure-of.result ≡ pressure_of s.args.e s.args.d (low s)
-low_is c = let s = start c.before.before in rw (back (low_fits s)) at c.pressure-of.ensures
+low_is : (c : tie.After-pressure_of-s) → let s = start c.before.before in c.pressure_of-s.result ≡ pressure_of s.args.e s.args.d (low s)
+low_is c = let s = start c.before.before in rw (back (low_fits s)) at c.pressure_of-s.ensures
 
-high_is : (c : tie.After-pressure-of2) → let s = start c.before.before.before in c.pressure-of2.result ≡ pressure_of s.args.e s.args.d (high s)
-high_is c = let s = start c.before.before.before in rw (back (high_fits s)) at c.pressure-of2.ensures
+high_is : (c : tie.After-pressure_of-t) → let s = start c.before.before.before in c.pressure_of-t.result ≡ pressure_of s.args.e s.args.d (high s)
+high_is c = let s = start c.before.before.before in rw (back (high_fits s)) at c.pressure_of-t.ensures
 
 -- in a strip they are small enough for the straight line
 small : (s : tie.Start) (g : ℤ) → beyond_gamma g ≡ false → In 57 (pressure_of s.args.e s.args.d g)
@@ -105,48 +105,48 @@ gamma_small (negsuc n) t = absurd (true≢false t)
 y_fits : (s : tie.Start) → SFits w64 s.args.logs.y
 y_fits s = search rules
 
-straight-requires : tie.Need-straight-requires
-straight-requires c κs =
+straight-value-requires : tie.Need-straight-value-requires
+straight-value-requires c κs =
     let h = c.before in
     let k = h.before in
     let i = k.before in
     let s = start i.before in
-    let p : In 57 (held k.pressure-of.result) = in_ok (low_is k) k.pressure-of.type-inv (small s (low s) (low_stays i)) in
-    let q : In 57 (held h.pressure-of2.result) = in_ok (high_is h) h.pressure-of2.type-inv (small s (high s) (high_stays i)) in
+    let p : In 57 (held k.pressure_of-s.result) = in_ok (low_is k) k.pressure_of-s.type_inv (small s (low s) (low_stays i)) in
+    let q : In 57 (held h.pressure_of-t.result) = in_ok (high_is h) h.pressure_of-t.type_inv (small s (high s) (high_stays i)) in
     let g-in : In 57 (held (low s)) = in_back (low_fits s) (gamma_small (low s) (low_stays i)) in
     let h-in : In 57 (held (high s)) = in_back (high_fits s) (gamma_small (high s) (high_stays i)) in (
-      rw (back s.fits.a, back s.fits.b, back (y_fits s)) s.pre.between,
+      rw (back s.ranges.a, back s.ranges.b, back (y_fits s)) s.requires.between,
       (
-        in_back s.fits.a s.pre.low,
+        in_back s.ranges.a s.requires.low,
         (
-          in_back s.fits.b s.pre.high,
+          in_back s.ranges.b s.requires.high,
           (search rules, search rules),
         ),
       ),
     )
 
-low_held : (c : tie.After-pressure-of) → let s = start c.before.before in held c.pressure-of.result ≡ pressure_of s.args.e s.args.d (low s)
-low_held c = back_ok c.pressure-of.result c.pressure-of.type-inv ∙ low_is c
+low_held : (c : tie.After-pressure_of-s) → let s = start c.before.before in held c.pressure_of-s.result ≡ pressure_of s.args.e s.args.d (low s)
+low_held c = back_ok c.pressure_of-s.result c.pressure_of-s.type_inv ∙ low_is c
 
-high_held : (c : tie.After-pressure-of2) → let s = start c.before.before.before in held c.pressure-of2.result ≡ pressure_of s.args.e s.args.d (high s)
-high_held c = back_ok c.pressure-of2.result c.pressure-of2.type-inv ∙ high_is c
+high_held : (c : tie.After-pressure_of-t) → let s = start c.before.before.before in held c.pressure_of-t.result ≡ pressure_of s.args.e s.args.d (high s)
+high_held c = back_ok c.pressure_of-t.result c.pressure_of-t.type_inv ∙ high_is c
 
-value : (c : tie.After-straight) → let s = start c.before.before.before.before.before in
-    held c.straight.result ≡ straight s.args.a s.args.b (pressure_of s.args.e s.args.d (low s)) (pressure_of s.args.e s.args.d (high s)) s.args.logs.y
+value : (c : tie.After-straight-value) → let s = start c.before.before.before.before.before in
+    held c.straight-value.result ≡ straight s.args.a s.args.b (pressure_of s.args.e s.args.d (low s)) (pressure_of s.args.e s.args.d (high s)) s.args.logs.y
 value c =
     let h = c.before.before in
     let k = h.before in
     let s = start k.before.before in
-    back_ok c.straight.result c.straight.type-inv
-    ∙ (rw (back s.fits.a, back s.fits.b, back (y_fits s)) at c.straight.ensures)
+    back_ok c.straight-value.result c.straight-value.type_inv
+    ∙ (rw (back s.ranges.a, back s.ranges.b, back (y_fits s)) at c.straight-value.ensures)
     ∙ ap₂ (λ (t u : ℤ). straight s.args.a s.args.b t u s.args.logs.y) (low_held k) (high_held h)
 
 shown-requires : tie.Need-shown-requires
 shown-requires c κs = search rules
 
-returns-2 : tie.Need-returns-2
+returns : tie.Need-returns
 unfolding verdict
-returns-2 c =
+returns c =
     let v = c.before in
     let h = v.before.before in
     let k = h.before in
@@ -156,15 +156,6 @@ returns-2 c =
     ∙ (λ j. shows letter_p s.args.logs (Two s.args.low s.args.high) (Both (low_held k j) (high_held h j)) (value v j))
     ∙ ap (verdict s) (sym (stay i))
 
-pub line-spec : {M : Type 1} → statement M
-line-spec =
-    tie.close
-    (tie.spec
-    is-either-beyond-requires
-    judged-requires
-    returns
-    pressure-of-requires
-    pressure-of-requires-2
-    straight-requires
-    shown-requires
-    returns-2)
+pub line_spec : {M : Type 1} → statement M
+line_spec =
+    tie.close (tie.spec is_either_beyond-requires judged-requires returns-then-is_either_beyond pressure_of-s-requires pressure_of-t-requires straight-value-requires shown-requires returns)

@@ -17,39 +17,40 @@ use Rattle.air.proofs.Places.{fit_refused, fit_shown}
 use Rattle.temperature.proofs.unjoined.Statement.{statement}
 use Rattle.temperature.proofs.unjoined.Tie as tie
 
-is-beyond-requires : tie.Need-is-beyond-requires
-is-beyond-requires c κs = search rules
+is_beyond-requires : tie.Need-is_beyond-requires
+is_beyond-requires c κs = search rules
 
-beyond : (c : tie.After-is-beyond) → c.is-beyond.result ≡ beyond_fit c.before.before.args.e.fit
-beyond c = rw (back {z = c.before.before.args.e.fit} (search rules)) at c.is-beyond.ensures
+beyond : (c : tie.After-is_beyond) → c.is_beyond.result ≡ beyond_fit c.before.before.args.e.fit
+beyond c = rw (back {z = c.before.before.args.e.fit} (search rules)) at c.is_beyond.ensures
 
 judged-requires : tie.Need-judged-requires
 judged-requires c κs = search rules
 
-returns : tie.Need-returns
-returns c =
+returns-then-is_beyond : tie.Need-returns-then-is_beyond
+returns-then-is_beyond c =
     let a = c.before.before in
     let s = a.before.before in
     let e : Edge = s.args.e in
-    c.judged.ensures ∙ fit_refused temperature_rule Clear s.args.logs (λ y. point_of (kelvin_by chosen) e) refl (sym (beyond a) ∙ c.before.if1.true)
+    c.judged.ensures ∙ fit_refused temperature_rule Clear s.args.logs (λ y. point_of (kelvin_by chosen) e) refl (sym (beyond a) ∙ c.before.if-is_beyond.true)
 
-stays : (c : tie.Else1) → beyond_fit c.before.before.before.args.e.fit ≡ false
-stays c = sym (beyond c.before) ∙ c.if1.false
+stays : (c : tie.Else-is_beyond) → beyond_fit c.before.before.before.args.e.fit ≡ false
+stays c = sym (beyond c.before) ∙ c.if-is_beyond.false
 
-kelvin-of-requires : tie.Need-kelvin-of-requires
-kelvin-of-requires c κs = rw (back {z = c.before.before.before.args.e.fit} (search rules)) (stays c)
+kelvin_of-requires : tie.Need-kelvin_of-requires
+kelvin_of-requires c κs = rw (back {z = c.before.before.before.args.e.fit} (search rules)) (stays c)
 
 shown-requires : tie.Need-shown-requires
 shown-requires c κs = search rules
 
-returns-2 : tie.Need-returns-2
-returns-2 c =
+returns : tie.Need-returns
+returns c =
     let k = c.before in
     let s = k.before.before.before.before in
     let e : Edge = s.args.e in
-    (rw (back_ok k.kelvin-of.result k.kelvin-of.type-inv) at c.shown.ensures)
-    ∙ ap (λ (v : ℤ). shows letter_t s.args.logs (One e) Unjoined v) (rw (back {z = e.fit} (search rules)) at k.kelvin-of.ensures)
+    (rw (back_ok k.kelvin_of.result k.kelvin_of.type_inv) at c.shown.ensures)
+    ∙ ap (λ (v : ℤ). shows letter_t s.args.logs (One e) Unjoined v) (rw (back {z = e.fit} (search rules)) at k.kelvin_of.ensures)
     ∙ fit_shown temperature_rule Clear s.args.logs (λ y. point_of (kelvin_by chosen) e) refl (stays k.before)
 
-pub unjoined-spec : {M : Type 1} → statement M
-unjoined-spec = tie.close (tie.spec is-beyond-requires judged-requires returns kelvin-of-requires shown-requires returns-2)
+pub unjoined_spec : {M : Type 1} → statement M
+unjoined_spec =
+    tie.close (tie.spec is_beyond-requires judged-requires returns-then-is_beyond kelvin_of-requires shown-requires returns)
