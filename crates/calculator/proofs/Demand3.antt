@@ -1,7 +1,7 @@
 -- Demand 3, and that what lawful choices make of a search is allowed.
 use mathlib.Core.List.{List, Memᴰ}
 use mathlib.Core.Path.{◌≡◌, ap, ◌∙◌, subst}
-use Prim.Native.Nat.{ℕ, ◌≤◌}
+use Prim.Native.Nat.{ℕ}
 use lib.Dec.{lit≤}
 use Rattle.octets.specs.Room.{text}
 use Rattle.name.specs.Name.{name_of}

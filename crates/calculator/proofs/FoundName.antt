@@ -12,7 +12,6 @@ use Rattle.name.specs.Name.{is_length, judged, name_of}
 use Rattle.sheet_record.specs.declared.Record.{Record}
 use Rattle.sheet_search.specs.declared.Lookup.{Lookup}
 use Rattle.sheet_search.specs.declared.Lookup.TheVariants.{Hit, Miss}
-use Rattle.sheet.specs.Sheet
 use Rattle.sheet.specs.Sheet.{Sheet, records, sheet_of, number_of}
 use Rattle.sheet.proofs.Counted.{accepted_records}
 use Rattle.sheet_search.specs.Find.{find_in, handed_back}

@@ -2,15 +2,12 @@
 use mathlib.Core.List.{List}
 use mathlib.Core.Path.{◌≡◌, refl, sym, ap, ◌∙◌, subst}
 use Prim.Native.Nat.{ℕ}
-use native.Mathlib.Omega.{arith}
 use Rattle.octets.specs.Room.{Text, text, refused}
 use Rattle.name.specs.Name.{name_of}
 use Rattle.sheet_record.specs.declared.Record.{Record}
-use Rattle.sheet_search.specs.declared.Lookup.{Lookup}
-use Rattle.sheet_search.specs.declared.Lookup.TheVariants.{Hit, Miss}
-use Rattle.sheet.specs.Sheet
+use Rattle.sheet_search.specs.declared.Lookup.TheVariants.{Miss}
 use Rattle.sheet.specs.Sheet.{Sheet, records, sheet_of, number_of, Accepted}
-use Rattle.sheet_search.specs.Find.{find_in, find_by, find_of, Inside}
+use Rattle.sheet_search.specs.Find.{find_by, find_of, Inside}
 use Rattle.sheet.proofs.Accept.{accepted_is}
 use Rattle.sheet_search.proofs.Searching.{find_inside}
 use Rattle.calculator.specs.Search.{locate_name, locate_in, locate}

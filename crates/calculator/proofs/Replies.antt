@@ -8,7 +8,6 @@ use Rattle.sheet_search.specs.declared.Lookup.{Lookup}
 use Rattle.sheet_search.specs.declared.Lookup.TheVariants.{Hit, Miss}
 use Rattle.sheet_record.specs.declared.Record.{Record}
 use Rattle.sheet_search.specs.Find.{handed_back}
-use Rattle.sheet.specs.Sheet
 use Rattle.sheet.specs.Sheet.{Sheet, records, sheet_of}
 use Rattle.sheet_search.proofs.Pages.{Page, without, with, page_of, Reply, missed, found, reply_of, find_on, find_page, reply_name, name_reply}
 use Rattle.air.specs.declared.Answer.{Answer}

@@ -1,6 +1,6 @@
 -- What demand 3 says of an answer, with its numbers written out: a definition that says less does not give it.
 use mathlib.Core.Option.{Option, none, some}
-use mathlib.Core.Path.{◌≡◌, refl, sym, ap, subst, ◌∙◌}
+use mathlib.Core.Path.{◌≡◌, sym, ap, subst, ◌∙◌}
 use Prim.Native.Nat.{ℕ, ◌≤◌}
 use lib.Dec.{lit≤}
 use lib.IntN.{ℤ, pos, nat_abs, ◌+ℤ◌, ◌-ℤ◌}
@@ -9,7 +9,6 @@ use Rattle.fraction.specs.Fraction.{Fraction, Within, over, floor}
 use Rattle.fraction.specs.Tens.{Above, Below}
 use Rattle.logarithm.specs.Log.{IsLog}
 use Rattle.fit.specs.Exact.{in_units, exact_fit}
-use Rattle.fit.specs.declared.Edge.{Edge}
 use Rattle.bands.specs.Bands.{strip_of}
 use Rattle.bands.specs.declared.Strip.{Strip}
 use Rattle.bands.specs.declared.Strip.TheVariants.{Clear, Between}

@@ -1,4 +1,6 @@
 // The search of a sheet by a spelled name.
+#![tactic(auto)]
+
 ghost use Rattle.std.specs.Prelude.{◌≡◌};
 ghost use Rattle.sheet.specs.Index.{Indexed};
 ghost use Rattle.sheet_remark.specs.Remark.{remark_of, RemarkInside};

@@ -17,9 +17,7 @@ use Rattle.sheet_version.proofs.Version.{read_in_lem, in_read, count_read}
 use Rattle.sheet_remark.specs.Remark.{remark_in}
 use Rattle.convert_records.specs.Records.{sheet_as, bare}
 use Rattle.convert.specs.Convert.{forward, back}
-use Rattle.convert.specs.ForwardAnswer
 use Rattle.convert.specs.ForwardAnswer.{ForwardAnswer, ForwardExactly, ForwardRefuses}
-use Rattle.convert.specs.BackAnswer
 use Rattle.convert.specs.BackAnswer.{BackAnswer, NoRemark, BackExactly, BackRefuses}
 use Rattle.convert.proofs.Paired.{and_true}
 use Rattle.convert.proofs.Texts.{forward_length, back_length, forward_own, forward_long, forward_fitting, back_own, back_remarked, back_fitting}

@@ -10,7 +10,6 @@ use lib.ListN.{length}
 use Rattle.octets.specs.Room.{refused, text, fitting}
 use Rattle.octets.proofs.Told.{fits}
 use Rattle.sheet_record.specs.declared.Record.{Record}
-use Rattle.sheet.specs.Sheet
 use Rattle.sheet.specs.Sheet.{Sheet, records, sheet_of, number_of, records_of}
 use Rattle.sheet.proofs.Entries.{Entry, said_by, said}
 use Rattle.sheet_version.specs.Version.{sheet_in}

@@ -12,10 +12,9 @@ use Rattle.octets.specs.Room.{Text, refused, fitting}
 use Rattle.sheet_record.specs.Layout.{Layout, layout_in, layout_of, or_plain, plain_layout}
 use Rattle.sheet_record.specs.Front.{values_end}
 use Rattle.sheet_record.specs.declared.Record.{Record}
-use Rattle.sheet.specs.Sheet
 use Rattle.sheet.specs.Sheet.{Sheet, records, sheet_of, number_of, records_of}
 use Rattle.sheet_version.specs.Version.{sheet_in}
-use Rattle.sheet_version.proofs.Version.{in_version_lem, read_in_lem}
+use Rattle.sheet_version.proofs.Version.{in_version_lem, read_in_lem, few_read, most_read}
 use Rattle.sheet_remark.specs.Remark.{remark_at}
 use Rattle.convert_records.specs.Records.{sheet_as, bare}
 use Rattle.convert.specs.Convert.{forward_by, forward, back_by, back}
@@ -82,3 +81,12 @@ module _ (s : List ℕ) (room : ℕ) where
 
     pub back_fitting : bare s (records_of (sheet_of s)) ≡ true → back s room ≡ fitting room (sheet_as 1 s (records_of (sheet_of s)))
     back_fitting b = back_is ∙ ap (λ (c : Bool). cond c (fitting room (sheet_as 1 s (records_of (sheet_of s)))) (refused 18)) b
+
+-- in an accepted sheet the count gives the length
+pub forward_told : (s : List ℕ) (room : ℕ) → number_of (sheet_in 1 s) ≡ 0 → 65536 < length s + number_at 2 s 5 → forward s room ≡ refused 1
+forward_told s room a h = forward_long s room _ a (forward_length s a) h
+
+-- what the proof of each way goes by
+pub ruleset forward_laws = (in_version_lem, few_read, most_read, forward_length, forward_own, forward_told, forward_fitting)
+
+pub ruleset back_laws = (in_version_lem, few_read, back_length, back_own, back_remarked, back_fitting)

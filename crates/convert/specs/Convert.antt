@@ -1,7 +1,6 @@
 -- Request 6: version 1 of a sheet in version 2, and back.
 use Rattle.std.specs.Prelude.{cond, List, ℕ, ltb, length}
 use Rattle.octets.specs.Room.{Text, refused, fitting}
-use Rattle.sheet.specs.Sheet
 use Rattle.sheet.specs.Sheet.{Sheet, records}
 use Rattle.sheet_version.specs.Version.{sheet_in}
 use Rattle.convert_records.specs.Records.{sheet_as, bare}

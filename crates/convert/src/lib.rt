@@ -1,4 +1,6 @@
 // Version 1 of a state sheet to version 2, with empty remarks, and back.
+#![tactic(auto)]
+
 ghost use Rattle.std.specs.Prelude.{◌≡◌, length};
 ghost use Rattle.octets.specs.Room.{outcome_of, written};
 ghost use Rattle.convert.specs.Convert.{forward, back};
@@ -6,6 +8,7 @@ ghost use Rattle.convert.specs.Convert.{forward, back};
 use octets::Outcome;
 
 // A sheet of version 1 in version 2, in lent room.
+#[tactic(auto, using(crate::proofs::Texts::forward_laws))]
 pub fn forward(s: &[u8], out: &mut [u8]) -> Outcome
     ensures value { result ≡ outcome_of (forward s.now (length out.old)) }
     ensures out_after { out.new ≡ written (forward s.now (length out.old)) out.old }
@@ -23,6 +26,7 @@ pub fn forward(s: &[u8], out: &mut [u8]) -> Outcome
 }
 
 // A sheet of version 2 whose remarks are empty in version 1, in lent room.
+#[tactic(auto, using(crate::proofs::Texts::back_laws))]
 pub fn back(s: &[u8], out: &mut [u8]) -> Outcome
     ensures value { result ≡ outcome_of (back s.now (length out.old)) }
     ensures out_after { out.new ≡ written (back s.now (length out.old)) out.old }

@@ -1,4 +1,6 @@
 // What C gets of records, remarks, texts and marks: flat structs.
+#![tactic(auto)]
+
 ghost use Rattle.std.specs.Prelude.{◌≡◌};
 ghost use Rattle.flat_parts.specs.Flat.{flat_found, flat_remark, flat_text, flat_mark};
 

@@ -5,6 +5,7 @@ ghost use Rattle.std.specs.Prelude.{◌≡◌, ◌<◌};
 ghost use Rattle.name.specs.Spelling.{unreserved, hex_value, hex_digit};
 
 // Whether a byte stands for itself.
+#[tactic(auto, unfolding(crate::specs::Spelling::unreserved))]
 pub fn plain(x: u8) -> bool
     ensures { result ≡ unreserved x }
 {
@@ -15,6 +16,7 @@ pub fn plain(x: u8) -> bool
 }
 
 // The value of a hexadecimal digit of either case; 16 for any other byte.
+#[tactic(auto, unfolding(crate::specs::Spelling::hex_value))]
 pub fn hex_value(x: u8) -> u8
     ensures { result ≡ hex_value x }
 {

@@ -32,6 +32,7 @@ enum Scan {
 }
 
 // What a spelling has at a place.
+#[tactic(auto, unfolding(crate::specs::Scan::piece_at))]
 fn piece_at(s: &[u8], at: usize) -> Piece
     requires { at < length s.now }
     ensures { result ≡ piece_at s.now at }
@@ -58,6 +59,7 @@ fn piece_at(s: &[u8], at: usize) -> Piece
 }
 
 // A byte at the next place of a buffer, if there is one.
+#[tactic(auto, unfolding(crate::specs::Scan::kept))]
 fn keep(buffer: &mut [u8; 40], n: usize, b: u8)
     ensures { buffer.new ≡ kept buffer.old n b }
 {

@@ -1,4 +1,6 @@
 // The line of a refused sheet or list, with which a listing begins.
+#![tactic(auto)]
+
 ghost use Rattle.std.specs.Prelude.{◌≡◌, ◌≤◌, length};
 ghost use Rattle.octets.specs.Room.{fitting, written, outcome_of};
 ghost use Rattle.sheet.specs.Index.{Blank, Indexed};

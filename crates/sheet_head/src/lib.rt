@@ -5,6 +5,7 @@ ghost use Rattle.std.specs.Prelude.{◌≡◌};
 ghost use Rattle.sheet_head.specs.Head.{head_fault};
 
 // The refusal of the sheet as a whole, or 0.
+#[tactic(auto, using(crate::proofs::Head::mark_bytes), unfolding(crate::specs::Head::head_fault))]
 pub fn head_fault(s: &[u8]) -> u32
     ensures { result ≡ head_fault s.now }
 {

@@ -37,6 +37,7 @@ pub fn number(s: &[u8], at: usize, k: usize) -> u64
 }
 
 // Whether a sheet is of version 2, in which records have remarks.
+#[tactic(auto, using(crate::proofs::Tails::low_other, crate::proofs::Tails::low_two))]
 fn has_remarks(s: &[u8]) -> bool
     requires { 5 ≤ length s.now }
     ensures { result ≡ eqb (number_at 2 s.now 3) 2 }
@@ -49,6 +50,7 @@ fn has_remarks(s: &[u8]) -> bool
 
 // How many bytes follow a record's second value, which ends at a place: none in version 1, in version 2 a remark with its length byte.
 // The sheet may be cut short there.
+#[tactic(auto, using(crate::proofs::Tails::tailed_none, crate::proofs::Tails::tailed_cut, crate::proofs::Tails::tailed_remark))]
 pub fn tail_at(s: &[u8], end: usize) -> usize
     requires { (5 ≤ length s.now) × (end ≤ length s.now) }
     ensures { Tailed s.now end result }
@@ -110,6 +112,7 @@ pub fn entry_at(s: &[u8], at: usize, n: usize) -> Record
 }
 
 // Whether a record stands at a place where so many are left.
+#[tactic(auto, using(crate::proofs::Steps::stands_none, crate::proofs::Steps::stands_some))]
 pub fn stands_at(s: &[u8], at: usize, left: usize) -> bool
     ensures { result ≡ stands_at (layout_in s.now) s.now at left }
 {
@@ -129,6 +132,7 @@ pub fn past_at(s: &[u8], at: usize, left: usize) -> usize
 }
 
 // The refusal at a place where no record stands; 0 at the end of the sheet.
+#[tactic(auto, using(crate::proofs::Steps::end_last, crate::proofs::Steps::end_over, crate::proofs::Steps::end_fault))]
 pub fn end_at(s: &[u8], at: usize, left: usize) -> u32
     ensures { result ≡ end_at (layout_in s.now) s.now at left }
 {

@@ -38,12 +38,15 @@ returns-then-s-start c =
 -- a record with its tail cut short
 pub returns-then-s-end : goal.returns-then-s-end
 returns-then-s-end c =
-    rw (tested c.args.s.now c.args.at c.long-n.result c.long-n.ensures.0 (omega arith) (omega arith) (omega arith) (omega arith), c.tail_at.ensures.is, lt-leb c.tail_at.result (length c.args.s.now - (c.args.at + 18 + c.long-n.result)) (omega (arith, c.if-s-end.true)))
+    let t = tested c.args.s.now c.args.at c.long-n.result c.long-n.ensures.0 (omega arith) (omega arith) (omega arith) (omega arith) in
+    rw (t, c.tail_at.ensures.is, lt-leb c.tail_at.result (length c.args.s.now - (c.args.at + 18 + c.long-n.result)) (omega (arith, c.if-s-end.true)))
 
 pub returns-then-is_known : goal.returns-then-is_known
 returns-then-is_known c =
-    rw (tested c.args.s.now c.args.at c.long-n.result c.long-n.ensures.0 (omega arith) (omega arith) (omega arith) (omega arith), c.tail_at.ensures.is, le-leb c.tail_at.result (length c.args.s.now - (c.args.at + 18 + c.long-n.result)) (omega (arith, c.if-s-end.false)), sym c.is_known.ensures ∙ c.if-is_known.true)
+    let t = tested c.args.s.now c.args.at c.long-n.result c.long-n.ensures.0 (omega arith) (omega arith) (omega arith) (omega arith) in
+    rw (t, c.tail_at.ensures.is, le-leb c.tail_at.result (length c.args.s.now - (c.args.at + 18 + c.long-n.result)) (omega (arith, c.if-s-end.false)), sym c.is_known.ensures ∙ c.if-is_known.true)
 
 pub returns : goal.returns
 returns c =
-    rw (tested c.args.s.now c.args.at c.long-n.result c.long-n.ensures.0 (omega arith) (omega arith) (omega arith) (omega arith), c.tail_at.ensures.is, le-leb c.tail_at.result (length c.args.s.now - (c.args.at + 18 + c.long-n.result)) (omega (arith, c.if-s-end.false)), sym c.is_known.ensures ∙ c.if-is_known.false)
+    let t = tested c.args.s.now c.args.at c.long-n.result c.long-n.ensures.0 (omega arith) (omega arith) (omega arith) (omega arith) in
+    rw (t, c.tail_at.ensures.is, le-leb c.tail_at.result (length c.args.s.now - (c.args.at + 18 + c.long-n.result)) (omega (arith, c.if-s-end.false)), sym c.is_known.ensures ∙ c.if-is_known.false)

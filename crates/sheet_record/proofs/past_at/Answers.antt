@@ -33,9 +33,11 @@ tail_at-requires c =
 pub overflow_add-result : goal.overflow_add-result
 overflow_add-result c =
     let p = stands_there (layout_in c.args.s.now) c.args.s.now c.args.at c.args.left c.requires in
-    record { fits = omega (arith, p.sound.fits, p.sound.len_is, c.well_formed, c.long.ensures.0, is c.args.s.now c.args.at c.args.left c.long.result c.tail_at.result c.requires c.long.ensures.0 c.tail_at.ensures) }
+    let t = is c.args.s.now c.args.at c.args.left c.long.result c.tail_at.result c.requires c.long.ensures.0 c.tail_at.ensures in
+    record { fits = omega (arith, p.sound.fits, p.sound.len_is, c.well_formed, c.long.ensures.0, t) }
 
 pub returns : goal.returns
 returns c =
     let p = stands_there (layout_in c.args.s.now) c.args.s.now c.args.at c.args.left c.requires in
-    rw p.is (omega (arith, p.sound.len_is, c.long.ensures.0, is c.args.s.now c.args.at c.args.left c.long.result c.tail_at.result c.requires c.long.ensures.0 c.tail_at.ensures))
+    let t = is c.args.s.now c.args.at c.args.left c.long.result c.tail_at.result c.requires c.long.ensures.0 c.tail_at.ensures in
+    rw p.is (omega (arith, p.sound.len_is, c.long.ensures.0, t))
