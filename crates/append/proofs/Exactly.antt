@@ -17,14 +17,12 @@ use Rattle.sheet_name.proofs.Same.{same_equal, same_refl}
 use Rattle.sheet_record.specs.declared.Record.{Record}
 use Rattle.sheet_record.specs.Front.{name_in}
 use Rattle.sheet_record.proofs.Places.{or_false}
-use Rattle.sheet.specs.Sheet
 use Rattle.sheet.specs.Sheet.{Sheet, records, number_of, seen}
 use Rattle.sheet_version.specs.Version.{sheet_in}
 use Rattle.sheet_version.proofs.Version.{read_in_lem, in_read, few_read}
 use Rattle.append_record.specs.Grown.{new_record, grown}
 use Rattle.append_record.proofs.Lengths.{record_length, grown_length}
 use Rattle.append.specs.Add.{add_fault, unless_refused, add_named, added}
-use Rattle.append.specs.Answer
 use Rattle.append.specs.Answer.{Reads, Absent, AddAnswer, AddExactly, AddRefuses}
 use Rattle.append.proofs.Faults.{own_number, wrong_name, under_name}
 

@@ -1,21 +1,24 @@
 -- What an add gives, by its first refusal.
-use mathlib.Core.Bool.{Bool, true, false, cond, not}
+use mathlib.Core.Bool.{Bool, true, false, cond}
 use mathlib.Core.List.{List}
-use mathlib.Core.Path.{◌≡◌, refl, sym, ap, ◌∙◌}
-use Prim.Native.Nat.{ℕ, zero, suc, ◌≤◌}
+use mathlib.Core.Path.{◌≡◌, refl, sym, ap, ap₂, ◌∙◌}
+use Prim.Native.Nat.{ℕ, zero, suc, ◌+◌, ◌≤◌}
 use native.Mathlib.Omega.{arith}
 use borrow.Author.Tests.{ltb-false}
 use lib.Dec.{ltb}
 use lib.ListN.{length}
+use lib.Seq.{length-take-le}
 use Rattle.kind.specs.Kind.{kind_of, is_known}
+use Rattle.kind.proofs.Byte.{known_byte}
 use Rattle.octets.specs.Room.{Text, refused, text}
 use Rattle.name.specs.Spelling.{Reading, wrong, bytes, reading}
 use Rattle.name.specs.Name.{is_length, judged, name_of}
+use Rattle.name_reader.proofs.Answers.{read_done, read_refused}
 use Rattle.sheet_record.specs.declared.Record.{Record}
-use Rattle.sheet.specs.Sheet
 use Rattle.sheet.specs.Sheet.{Sheet, records, sheet_of, number_of, records_of, seen}
 use Rattle.sheet_version.specs.Version.{sheet_in}
-use Rattle.sheet_version.proofs.Version.{read_in_lem}
+use Rattle.sheet_version.proofs.Version.{read_in_lem, few_read, most_read}
+use Rattle.append_record.proofs.Lengths.{record_length, grown_length}
 use Rattle.append_record.specs.Grown.{new_record, grown}
 use Rattle.append.specs.Add.{add_fault, unless_refused, add_named, add_to, add_by, added}
 
@@ -106,3 +109,27 @@ added_never s spelling kind first second room e = go (sheet_in 2 s) refl e
         sheet_never : {n : ℕ} {rs : List Record} → Sheet.refused n ≡ records rs → ⊥
         sheet_never q = let f : ◌≡◌ {A = ℕ} 0 1 = cc in omega arith
     go (records rs) p h = named rs (name_of spelling) refl h
+
+-- the sheet that would grow is longer by the new record
+pub longer : (s name : List ℕ) (kind first second : ℕ) → 7 ≤ length s → length (grown s (new_record name kind first second)) ≡ length s + length name + 19
+longer s name kind first second h = omega (arith, grown_length s (new_record name kind first second) h, record_length name kind first second)
+
+-- under a name, by the first refusal that is found for the length of the sheet that would grow
+module _ (s : List ℕ) (rs : List Record) (name : List ℕ) (kind first second room : ℕ) (there : Bool) (t : there ≡ seen s rs name) (h : 7 ≤ length s) where
+  named_fault : add_fault (is_known (kind_of kind)) there (length s + length name + 19) room
+      ≡ add_fault (is_known (kind_of kind)) (seen s rs name) (length (grown s (new_record name kind first second))) room
+  named_fault =
+      ap₂ (λ (b : Bool) (n : ℕ). add_fault (is_known (kind_of kind)) b n room) t (sym (longer s name kind first second h))
+
+  pub named_refused : (k : ℕ) → k ≡ add_fault (is_known (kind_of kind)) there (length s + length name + 19) room → (k ≡ 0 → ⊥)
+      → add_named s rs name kind first second room ≡ refused k
+  named_refused k e z = by_fault _ _ (λ w. z (e ∙ named_fault ∙ w)) ∙ ap refused (sym (e ∙ named_fault))
+
+  pub named_taken : 0 ≡ add_fault (is_known (kind_of kind)) there (length s + length name + 19) room
+      → add_named s rs name kind first second room ≡ text (grown s (new_record name kind first second))
+  named_taken e = by_none _ _ (sym (e ∙ named_fault))
+
+-- what the proofs of `add_named` and `add` go by
+pub ruleset named_laws = (few_read, most_read, longer, known_byte)
+
+pub ruleset add_laws = (own_number, wrong_name, under_name, read_done, read_refused, length-take-le)

@@ -17,7 +17,6 @@ use Rattle.sheet_record.specs.Front.{front, front_of, record_at, name_in, values
 use Rattle.sheet_record.specs.declared.Record.{Record}
 use Rattle.sheet_record.proofs.Tails.{layout_two}
 use Rattle.sheet_head.specs.Head.{head_fault}
-use Rattle.sheet.specs.Sheet
 use Rattle.sheet.specs.Sheet.{Sheet, records, sheet_of, number_of, records_of, seen, Accepted}
 use Rattle.sheet.specs.Structure.{fault_from}
 use Rattle.sheet.proofs.Accept.{read, fault, sheet_verdict, accepted_head, accepted_fault, accepted_apart, accepted_is}

@@ -4,7 +4,6 @@ use Rattle.kind.specs.Kind.{kind_of, is_known}
 use Rattle.name.specs.Name.{name_of}
 use Rattle.octets.specs.Room.{Text, refused, text}
 use Rattle.sheet_record.specs.declared.Record.{Record}
-use Rattle.sheet.specs.Sheet
 use Rattle.sheet.specs.Sheet.{Sheet, records, seen}
 use Rattle.sheet_version.specs.Version.{sheet_in}
 use Rattle.append_record.specs.Grown.{new_record, grown}

@@ -21,6 +21,7 @@ fn fault(holds: bool, number: u32, next: u32) -> u32
 }
 
 // Whether a number names no kind.
+#[tactic(auto, using(kind::proofs::Byte::no_kind))]
 fn is_unknown(kind: u32) -> bool
     ensures { result ≡ not (is_known (kind_of kind)) }
 {
@@ -42,6 +43,7 @@ fn fault_of(kind: u32, there: bool, len: usize, room: usize) -> u32
 }
 
 // Adds a state under a name to an accepted sheet of version 2, in lent room. `there` tells whether a record has the name.
+#[tactic(auto, using(crate::proofs::Faults::named_laws))]
 fn add_named(
     s: &[u8],
     there: bool,
@@ -65,6 +67,7 @@ fn add_named(
 }
 
 // Adds a state under a spelled name to a sheet of version 2, in lent room.
+#[tactic(auto, using(crate::proofs::Faults::add_laws))]
 pub fn add(s: &[u8], spelled: &[u8], kind: u32, first: u64, second: u64, out: &mut [u8]) -> Outcome
     ensures value { result ≡ outcome_of (added s.now spelled.now kind first second (length out.old)) }
     ensures out_after { out.new ≡ written (added s.now spelled.now kind first second (length out.old)) out.old }

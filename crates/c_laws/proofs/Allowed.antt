@@ -12,7 +12,6 @@ use Rattle.octets.proofs.Told.{fits}
 use Rattle.name.specs.Spelling.{spelled}
 use Rattle.sheet_record.specs.declared.Record.{Record}
 use Rattle.sheet_record.specs.Front.{name_in}
-use Rattle.sheet.specs.Sheet
 use Rattle.sheet.specs.Sheet.{Sheet, records, sheet_of}
 use Rattle.sheet_search.specs.declared.Lookup.{Lookup}
 use Rattle.sheet_search.specs.declared.Lookup.TheVariants.{Hit, Miss}
@@ -30,7 +29,6 @@ use Rattle.report.proofs.Allowed.{state, searched, listing_allowed}
 use Rattle.walk.specs.declared.Walk.{Walk}
 use Rattle.walk.specs.declared.Step.{Step}
 use Rattle.walk.specs.Walk.{line_at, step_by, stepped, step_of}
-use Rattle.walk.specs.Allowed
 use Rattle.walk.specs.Allowed.{IsStep}
 use Rattle.mark.specs.Mark.{mark_of}
 use Rattle.flat.specs.declared.CAnswer.{CAnswer}

@@ -14,12 +14,9 @@ use Rattle.sheet_search.specs.Find.{find_in}
 use Rattle.sheet_search.proofs.Pages.{reply_of}
 use Rattle.sheet_search.proofs.Searching.{Finding, hit, finding}
 use Rattle.sheet_remark.specs.Remark.{remark_of}
-use Rattle.convert_records.specs.Records.{bare}
 use Rattle.convert.specs.Convert.{forward, back}
 use Rattle.convert.specs.BackAnswer.{NoRemark}
-use Rattle.convert.specs.ForwardAnswer
 use Rattle.convert.specs.ForwardAnswer.{ForwardAnswer}
-use Rattle.convert.specs.BackAnswer
 use Rattle.convert.specs.BackAnswer.{BackAnswer}
 use Rattle.convert.proofs.Paired.{Version, one, two}
 use Rattle.convert.proofs.Laws.{Turned, turned_back, turned_page, turned_read, forward_turned, back_turned, forward_then_back, back_then_forward}

@@ -2,7 +2,7 @@
 use mathlib.Core.Bool.{Bool, true, false, cond, not, ◌||◌}
 use mathlib.Core.List.{List, [], ◌∷◌, ◌++◌, Memᴰ}
 use mathlib.Core.Option.{Option, none, some}
-use mathlib.Core.Path.{◌≡◌, refl, ap, ◌∙◌}
+use mathlib.Core.Path.{◌≡◌, ap, ◌∙◌}
 use Prim.Native.Nat.{ℕ, zero, suc, ◌+◌, ◌*◌, ◌≤◌}
 use native.Mathlib.Nat.{le_trans}
 use native.Mathlib.Omega.{arith}
@@ -33,12 +33,11 @@ use Rattle.sheet_search.specs.declared.Lookup.{Lookup}
 use Rattle.sheet_search.specs.declared.Lookup.TheVariants.{Hit, Miss}
 use Rattle.sheet_search.specs.Find.{find_in}
 use Rattle.sheet_search.proofs.Locate.{Fit, finds}
-use Rattle.sheet_search.proofs.Searching.{Finding, hit, miss, finding}
+use Rattle.sheet_search.proofs.Searching.{Finding, miss, finding}
 use Rattle.calculator.specs.Search.{locate_name, locate_in, locate, answer_at, search_by}
 use Rattle.line.specs.Line.{line_room, shown_name, refusal_rest, rest_by, line_of, line}
 use Rattle.line.proofs.Names.{shown_short}
 use Rattle.line.proofs.Short.{value_short, refusal_short}
-use Rattle.walk.specs.Parts.{Named}
 use Rattle.walk.specs.Walk.{line_of_record}
 use Rattle.walk.proofs.Steps.{fit_named}
 use Rattle.name_list.specs.Lines.{lines_of}

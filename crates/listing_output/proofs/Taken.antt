@@ -32,9 +32,11 @@ part_join listing from middle end h k =
 pub takes_none : (a : Option (List ℕ)) (listing : List ℕ) (from : ℕ) → Takes a a listing from from
 takes_none a listing from =
     let z : 0 ≡ from - from = omega arith in
-    subst (λ (n : ℕ). Appends a a (part listing from n)) z (appends_none a)
+    (omega arith, subst (λ (n : ℕ). Appends a a (part listing from n)) z (appends_none a))
 
 -- and then some more
-pub takes_more : (a b c : Option (List ℕ)) (listing : List ℕ) (from middle end : ℕ) → from ≤ middle → middle ≤ end → Takes a b listing from middle → Takes b c listing middle end → Takes a c listing from end
-takes_more a b c listing from middle end h k p q =
-    subst (Appends a c) (part_join listing from middle end h k) (appends_more a b c (part listing from (middle - from)) (part listing middle (end - middle)) p q)
+pub takes_more : (a b c : Option (List ℕ)) (listing : List ℕ) (from middle end : ℕ) → Takes a b listing from middle → Takes b c listing middle end → Takes a c listing from end
+takes_more a b c listing from middle end p q = (
+  omega (arith, p.0, q.0),
+  subst (Appends a c) (part_join listing from middle end p.0 q.0) (appends_more a b c (part listing from (middle - from)) (part listing middle (end - middle)) p.1 q.1),
+)

@@ -16,4 +16,8 @@ pub record Reached (end : ℕ) (w : Written) : Type 0 where
 
 -- an output, where it tells what it holds, took the bytes of a listing from a place up to another
 abbrev pub Takes : Option (List ℕ) → Option (List ℕ) → List ℕ → ℕ → ℕ → Type 0
-Takes old new listing from end = Appends old new (part listing from (end - from))
+Takes old new listing from end = (from ≤ end) × Appends old new (part listing from (end - from))
+
+-- an output, where it tells what it holds, took the bytes of a listing that are accounted for
+abbrev pub Wrote : Option (List ℕ) → Option (List ℕ) → List ℕ → Written → Type 0
+Wrote old new listing w = Takes old new listing 0 w.done

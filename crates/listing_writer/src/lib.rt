@@ -6,7 +6,7 @@ ghost use Rattle.air.specs.Choices.{chosen};
 ghost use Rattle.report_refusal.specs.Refusal.{refusal_of};
 ghost use Rattle.report.specs.Listing.{listing_by};
 ghost use Rattle.sheet.specs.Index.{Indexed};
-ghost use Rattle.listing_output.specs.Output.{Reached};
+ghost use Rattle.listing_output.specs.Output.{Reached, Wrote};
 
 use listing_output::Written;
 use octets::Outcome;
@@ -25,7 +25,8 @@ fn write_parts<W: Write>(
 ) -> Written
     requires indexed { Indexed sheet.now starts.now heads.now next.now × (refusal_of sheet.now list.now ≡ []) }
     requires in_bounds { (192 ≤ length out.old) × (length out.old ≤ 65536) }
-    ensures { Reached (length (listing_by chosen sheet.now list.now)) result }
+    ensures reached { Reached (length (listing_by chosen sheet.now list.now)) result }
+    ensures bytes { Wrote (W.contents output.old) (W.contents output.new) (listing_by chosen sheet.now list.now) result }
 {
     let mut start = 0;
     let mut written = listing_output::nothing();
@@ -50,7 +51,8 @@ pub fn write_listing<W: Write>(
     out: &mut [u8],
 ) -> Written
     requires { (192 ≤ length out.old) × (length out.old ≤ 65536) }
-    ensures { Reached (length (listing_by chosen sheet.now list.now)) result }
+    ensures reached { Reached (length (listing_by chosen sheet.now list.now)) result }
+    ensures bytes { Wrote (W.contents output.old) (W.contents output.new) (listing_by chosen sheet.now list.now) result }
 {
     let mut starts = distinct::no_links();
     let mut heads = distinct::no_heads();

@@ -1,4 +1,6 @@
 // The whole listing of a run list, written to lent room.
+#![tactic(auto)]
+
 ghost use Rattle.std.specs.Prelude.{◌≡◌, length};
 ghost use Rattle.air.specs.Choices.{chosen};
 ghost use Rattle.octets.specs.Room.{fitting, written, outcome_of};

@@ -10,7 +10,6 @@ use Rattle.name.specs.Spelling.{spelled}
 use Rattle.air.specs.Choices.{Choices}
 use Rattle.state.specs.State.{answer_by}
 use Rattle.sheet_record.specs.declared.Record.{Record}
-use Rattle.sheet.specs.Sheet
 use Rattle.sheet.specs.Sheet.{Sheet, records, sheet_of}
 use Rattle.sheet.proofs.Entries.{said}
 use Rattle.sheet_search.specs.declared.Lookup.{Lookup}

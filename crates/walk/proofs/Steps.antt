@@ -21,7 +21,6 @@ use Rattle.air.specs.declared.Logs.{Logs}
 use Rattle.sheet_record.specs.Layout.{layout_in}
 use Rattle.sheet_record.specs.Front.{name_in}
 use Rattle.sheet_record.specs.declared.Record.{Record}
-use Rattle.sheet.specs.Sheet
 use Rattle.sheet.specs.Sheet.{Sheet, records, sheet_of, number_of, records_of, Accepted}
 use Rattle.sheet.proofs.Counted.{accepted_records, accepted_count}
 use Rattle.sheet_search.specs.declared.Lookup.{Lookup}

@@ -6,7 +6,6 @@ use Rattle.air.specs.Choices.{Choices}
 use Rattle.state.specs.State.{answer_by}
 use Rattle.sheet_record.specs.declared.Record.{Record}
 use Rattle.sheet_record.specs.Front.{name_in}
-use Rattle.sheet.specs.Sheet
 use Rattle.sheet.specs.Sheet.{Sheet, records, sheet_of}
 use Rattle.sheet_search.specs.declared.Lookup.{Lookup}
 use Rattle.sheet_search.specs.declared.Lookup.TheVariants.{Hit, Miss}

@@ -1,4 +1,6 @@
 // A walk over the records of a sheet, to which states may be added meanwhile.
+#![tactic(auto)]
+
 ghost use Rattle.std.specs.Prelude.{◌≡◌, ◌<◌, length};
 ghost use Rattle.octets.specs.Room.{fitting, written, outcome_of};
 ghost use Rattle.air.specs.Choices.{chosen};

@@ -1,5 +1,5 @@
 -- `listing_output::write_next`: what is left of the bytes is next, and what a turn took follows what was taken before.
-use Rattle.std.proofs.Common.{arith, ◌-◌, ◌+◌, ◌≤◌, length}
+use Rattle.std.proofs.Common.{arith}
 use Rattle.listing_output.proofs.Next.{next_rest, rest_size}
 use Rattle.listing_output.proofs.Taken.{takes_more}
 use Rattle.listing_output.proofs.write_next.Goals as goal
@@ -12,13 +12,14 @@ pub returns-then-written-clause-bytes : goal.returns-then-written-clause-bytes
 returns-then-written-clause-bytes g c =
     let e = c.write_some-written.ensures in
     let i = c.loop-at.invariant in
-    takes_more _ _ _ _ _ c.loop-at.written.done _ (omega (arith, i.1)) (e.done_le_done.0) i.3 e.bytes
+    takes_more _ _ _ _ _ c.loop-at.written.done _ i.3 e.bytes
 
 pub loop-at-preserved : goal.loop-at-preserved
 loop-at-preserved g c =
     let e = c.write_some-written.ensures in
-    let i = c.loop-at.invariant in
-    (omega (arith, e.done_le_done.1, i.0, i.1, rest_size c.args.bytes.now c.loop-at.at),
-    omega (arith, e.done_le_done.0, i.1),
-    c.if-written.false,
-    takes_more _ _ _ _ _ c.loop-at.written.done _ (omega (arith, i.1)) (e.done_le_done.0) i.3 e.bytes)
+    let i = c.loop-at.invariant in (
+      omega (arith, e.done_le_done.1, i.0, i.1, rest_size c.args.bytes.now c.loop-at.at),
+      omega (arith, e.done_le_done.0, i.1),
+      c.if-written.false,
+      takes_more _ _ _ _ _ c.loop-at.written.done _ i.3 e.bytes,
+    )
