@@ -1,4 +1,6 @@
 // The C interface: thin entries over the proved crates. No entry keeps state, and none asks anything of its caller.
+#![tactic(auto)]
+
 ghost use Rattle.std.specs.Prelude.{◌≡◌, ◌+◌, ◌≤◌, length};
 ghost use Rattle.octets.specs.Room.{written, outcome_of};
 ghost use Rattle.name.specs.Name.{spelling_of};

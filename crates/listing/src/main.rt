@@ -2,10 +2,11 @@
 #![tactic(auto)]
 
 ghost use Rattle.std.specs.Prelude.{length, take, ◌<◌, ◌≤◌};
+ghost use Rattle.std.specs.Io.KnownBytes.{Consumes};
 ghost use Rattle.air.specs.Choices.{chosen};
 ghost use Rattle.report.specs.Listing.{listing_by};
 ghost use Rattle.listing_input.specs.Input.{ToEnd};
-ghost use Rattle.listing_output.specs.Output.{Reached};
+ghost use Rattle.listing_output.specs.Output.{Reached, Wrote};
 
 use listing_input::Input;
 use listing_output::Written;
@@ -33,6 +34,8 @@ fn run<I: Read, W: Write>(
     requires in_bounds_2 { (192 ≤ length out.old) × (length out.old ≤ 65536) }
     ensures to_end { ToEnd result.sheet × ToEnd result.list }
     ensures reached { Reached (length (listing_by chosen (take result.sheet.len sheet.new) (take result.list.len list.new))) result.written }
+    ensures names { Consumes (I.remaining input.old) (I.remaining input.new) (take result.list.len list.new) }
+    ensures bytes { Wrote (W.contents output.old) (W.contents output.new) (listing_by chosen (take result.sheet.len sheet.new) (take result.list.len list.new)) result.written }
 {
     let sheet_input = listing_input::read_sheet(rt, sheet);
     let list_input = listing_input::read_list(rt, input, list);

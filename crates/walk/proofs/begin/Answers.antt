@@ -20,7 +20,8 @@ number-count-requires c = (omega arith, omega (arith, accepted_few _ (accepted c
 pub overflow_cast-count : goal.overflow_cast-count
 overflow_cast-count c =
     let s = c.args.sheet.now in
-    record { fits = omega (arith, c.number-count.ensures, accepted_few s (accepted (goal.at.overflow_cast-count c).Else-number-ne0), (headed s (accepted_head s (accepted (goal.at.overflow_cast-count c).Else-number-ne0))).most) }
+    let a = accepted (goal.at.overflow_cast-count c).Else-number-ne0 in
+    record { fits = omega (arith, c.number-count.ensures, accepted_few s a, (headed s (accepted_head s a)).most) }
 
 pub returns : goal.returns
 returns c = begun_counted c.args.sheet.now c.number-count.result (accepted (goal.at.returns c).Else-number-ne0) c.number-count.ensures
