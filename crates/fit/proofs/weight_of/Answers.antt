@@ -1,8 +1,8 @@
 -- `fit::weight_of` is the choice of weights for a transition, by its form.
-use mathlib.Core.Path.{sym, subst, ap, ◌∙◌}
+use mathlib.Core.Path.{sym, ap, ◌∙◌}
 use lib.IntN.{ℤ}
 use Rattle.integer.proofs.Machine.{back, back_ok}
-use Rattle.weight.specs.Choice.{weight_by, Served}
+use Rattle.weight.specs.Choice.{weight_by}
 use Rattle.fit.specs.declared.Form.{Form}
 use Rattle.fit.specs.declared.Form.TheVariants.{Kept}
 use Rattle.fit.specs.Fit.{kept_in}
@@ -13,18 +13,6 @@ use Rattle.fit.proofs.weight_of.Goals as goal
 -- the weight of a form at an exponent
 abbrev by : ℤ → Form → ℤ
 by q f = weight_by (sign_of f) (kept_in (limit_of f) q)
-
-pub weight_minus-requires : goal.weight_minus-requires
-weight_minus-requires c =
-    rw (back c.ranges.q) (subst (λ (f : Form). Served (sign_of f) (kept_in (limit_of f) c.args.q)) c.in-Minus.is c.requires)
-
-pub returns-in-Plus : goal.returns-in-Plus
-returns-in-Plus c =
-    back_ok c.weight.result c.weight.type_inv ∙ (rw (back c.ranges.q) at c.weight.ensures.value) ∙ ap (by c.args.q) (sym c.in-Plus.is)
-
-pub returns-in-Minus : goal.returns-in-Minus
-returns-in-Minus c =
-    back_ok c.weight_minus.result c.weight_minus.type_inv ∙ (rw (back c.ranges.q) at c.weight_minus.ensures.value) ∙ ap (by c.args.q) (sym c.in-Minus.is)
 
 pub returns-in-Kept : goal.returns-in-Kept
 returns-in-Kept c =
