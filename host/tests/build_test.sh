@@ -50,7 +50,7 @@ ships_nothing() {
 
 sheet_tool='not built: sheet_tool: needs libcsv-dev'
 plot='not built: plot: needs libpango1.0-dev and pkg-config'
-checklist='not built: checklist: needs libcsv-dev, libmpfr-dev and libgmp-dev'
+checklist='not built: checklist: needs libmpfr-dev and libgmp-dev'
 lacks csv.h pango/pangocairo.h mpfr.h gmp.h
 expect "without any library the example is built" builds "$sheet_tool
 $plot
@@ -58,15 +58,13 @@ $checklist" example
 expect "nothing is installed then" ships_nothing install PREFIX="$work/shipped"
 expect "no release is made then" ships_nothing dist
 expect "each program's package is named" sh -c "make -C host missing STRICT= CC='$work/lacking-cc' > '$work/missing' &&
-    grep -q '^not built: shown .* listing_test: needs libmpfr-dev and libgmp-dev\$' '$work/missing' &&
-    grep -q '^not built: checklist faults: needs libcsv-dev, libmpfr-dev and libgmp-dev\$' '$work/missing' &&
+    grep -q '^not built: checklist faults .* listing_test: needs libmpfr-dev and libgmp-dev\$' '$work/missing' &&
     grep -q '^not built: fuzz_csv: needs clang, libclang-rt-dev and libcsv-dev\$' '$work/missing'"
 expect "where STRICT is set that is an error" sh -c "! make -C host missing CC='$work/lacking-cc' STRICT=1"
 lacks csv.h
-expect "without csv.h all but sheet_tool and the checklist is built" builds "$sheet_tool
-$checklist" "example plot"
-expect "nothing is installed without these" ships_nothing install PREFIX="$work/shipped"
-expect "no release is made without these" ships_nothing dist
+expect "without csv.h all but sheet_tool is built" builds "$sheet_tool" "example plot checklist"
+expect "nothing is installed without sheet_tool" ships_nothing install PREFIX="$work/shipped"
+expect "no release is made without sheet_tool" ships_nothing dist
 lacks pango/pangocairo.h
 expect "without pango all but plot is built" builds "$plot" "example sheet_tool checklist"
 expect "nothing is installed without plot" ships_nothing install PREFIX="$work/shipped"

@@ -241,46 +241,27 @@ takes_digits_and_units() {
         "1 state of the sheet is not in the file, first nose/cap 1 (spelled nose%2Fcap%201)"
 }
 
-# As spreadsheets write it: decimal commas, a line that names the delimiter, comments in front, columns by their headings.
-takes_spreadsheets() {
-    file 'nose/cap 1;273,21;K' '42;6,118220;kJ/kg/K' 'hot;;' && judged 0 samples/sample.eas && has "Of 3 lines 3 are right" &&
-        printf '\357\273\277# of today, by hand\r\nsep=;\r\nUnit; Value;no;NAME\r\n;;3;hot\r\nK;273,2139;1;nose/cap 1\r\n' \
-            > "$work/shown.csv" && judged 0 samples/sample.eas && has "Of 2 lines 2 are right" &&
-        file 'name,value,unit' 'nose/cap 1,"273,21",K' && judged 1 samples/sample.eas &&
-        has "cannot be read: the value is no number: 273,21 K"
-}
-
-# takes_table SHEET: the sheet tool's own table and rows with answers are read as they are.
-takes_table() {
-    "$build/sheet_tool" table --format=csv "$1" > "$work/shown.csv" && judged 0 "$1" &&
-        has "Of $(($(wc -l < "$work/shown.csv") - 1)) lines $(($(wc -l < "$work/shown.csv") - 1)) are right"
-}
-
-# Names that a CSV text must quote, and one that a comment might be taken for; a spelled column is no name's.
-takes_quoted_names() {
-    sheet "$work/odd.eas" name,pressure_Pa,density_kg_m3 '"a,b",101330,1.292' '"say ""x""",202660,1.292' '"#1",101330,1.292' \
-        '%41,202660,1.292' A,101330,1.292 &&
-        file name,value,unit '"a,b",273.21,K' '"say ""x""",541.00,K' '#1,273.21,K' '%41,541.00,K' A,273.21,K &&
-        judged 0 "$work/odd.eas" && has "Of 5 lines 5 are right" &&
-        file spelled,value '%41,273.21' '%2541,541.00' '%231,273.21' && judged 0 "$work/odd.eas" && has "Of 3 lines 3 are right"
-}
-
-# Each unit that the documents name, for a pressure of 689732 Pa, a temperature and an entropy.
+# Each unit that the documents name, for a pressure of 689732 Pa and for an entropy.
 takes_units() {
-    pressure='upper-edge/on 4' entropy='upper-edge/on 4/s'
-    file "$pressure,689732,Pa" "$pressure,6.89732e8,mPa" "$pressure,6897.32,hPa" "$pressure,689.732,kPa" \
-        "$pressure,0.689732,MPa" "$pressure,0.000689732,GPa" "$pressure,6897.32,mbar" "$pressure,6.89732,bar" \
-        "$pressure,6.80712,atm" "$pressure,5173.4,Torr" "$pressure,100.037,psi" "$entropy,10510.0,J/(kg K)" \
-        "$entropy,10510.0,J/kg/K" "$entropy,10.51,kJ/(kg K)" "$entropy,10.5100,kJ/kg/K" &&
-        judged 0 samples/energy-and-pressure.eas && has "Of 15 lines 15 are right" &&
+    file 'upper-edge/on 4,689732,Pa' 'upper-edge/on 4,6.89732e8,mPa' 'upper-edge/on 4,6897.32,hPa' \
+        'upper-edge/on 4,689.732,kPa' 'upper-edge/on 4,0.689732,MPa' 'upper-edge/on 4,0.000689732,GPa' \
+        'upper-edge/on 4,6897.32,mbar' 'upper-edge/on 4,6.89732,bar' 'upper-edge/on 4/s,10510.0,J/(kg K)' \
+        'upper-edge/on 4/s,10510.0,J/kg/K' 'upper-edge/on 4/s,10.51,kJ/(kg K)' 'upper-edge/on 4/s,10.5100,kJ/kg/K' &&
+        judged 0 samples/energy-and-pressure.eas && has "Of 12 lines 12 are right" &&
         for unit in K $(cut -d , -f 3 "$work/shown.csv" | tr ' ' _); do
             unit=$(echo "$unit" | tr _ ' ')
             grep -qF -e "$unit, " -e "$unit or " -e "or $unit" ../docs/CHECKLIST.md || { echo "no $unit in the document"; return 1; }
         done
 }
 
+# The document's own example.
+takes_document() {
+    sed -n '/^    name,value,unit$/,/^    hot$/s/^    //p' ../docs/CHECKLIST.md > "$work/shown.csv" &&
+        judged 0 samples/sample.eas && has "Of 3 lines 3 are right"
+}
+
 tells_each_line() {
-    file 'nose/cap 1,273.22,K' 42 hot,24000,K 7,273.2,K 42,6118.2203,K 'nose/cap 1,cold,K' 'nose/cap 1,273.2,F' ,273.2,K &&
+    file 'nose/cap 1,273.22,K' 42 hot,24000,K 7,273.2,K 42,6118.2203,K 'nose/cap 1,cold,K' 'nose/cap 1,273.2,F' &&
         judged 1 samples/sample.eas &&
         has "line 1, nose/cap 1 (spelled nose%2Fcap%201): 273.22 K (wrong); right is 273.213936 K" \
             "line 2, 42: nothing (wrong: the sheet has this name); right is 6118.220300 J/(kg K)" \
@@ -289,8 +270,7 @@ tells_each_line() {
             "line 5, 42: 6118.2203 K (wrong); right is 6118.220300 J/(kg K)" \
             "line 6, nose/cap 1 (.*): cannot be read: the value is no number: cold K" \
             "line 7, nose/cap 1 (.*): cannot be read: the unit is not known: 273.2 F" \
-            "line 8, : 273.2 K (wrong: no state has this name); right is nothing: no state" \
-            "Of 8 lines 0 are right, 6 are wrong, 2 cannot be read[.]"
+            "Of 7 lines 0 are right, 5 are wrong, 2 cannot be read[.]"
 }
 
 # A row's answer under a name of digits is told with its state.
@@ -464,22 +444,11 @@ sheet "$work/remarked.eas" name,pressure_Pa,density_kg_m3,remark 'a/b,101330,1.2
 expect "a state with a remark that is not shown" shows_fault 9 1 "$work/remarked.eas"
 expect "values rounded, cut and in other units are right" takes_digits_and_units
 expect "every unit is read" takes_units
-expect "decimal commas, comments and headings are read" takes_spreadsheets
-expect "names in quotes and spelled ones are read" takes_quoted_names
-for sample in sample slash-and-space digits-only energy-and-pressure with-remarks; do
-    expect "the table of $sample is right" takes_table samples/$sample.eas
-done
+expect "the document's example is right" takes_document
 expect "each wrong line is told" tells_each_line
 expect "another state's value is told" tells_whose_value
 expect "a file that is not there is told" refuses_shown "$work/none.csv" samples/sample.eas "$work/none.csv: No such file"
 expect "a sheet that is not there is told" refuses_shown "$work/shown.csv" "$work/none.eas" "$work/none.eas: No such file"
-printf 'name,value\n42,6118\n"hot' > "$work/open.csv"
-expect "a quote without an end is told with its line" refuses_shown "$work/open.csv" samples/sample.eas \
-    "$work/open.csv: line 3: a quoted field has no end"
-printf '\377\376n\0' > "$work/wide.csv"
-expect "UTF-16 is told" refuses_shown "$work/wide.csv" samples/sample.eas "$work/wide.csv: the text is UTF-16; save it as UTF-8"
-printf 'name,value\n\n,\n' > "$work/empty.csv"
-expect "a file without states is told" refuses_shown "$work/empty.csv" samples/sample.eas "$work/empty.csv: it has no line of a state"
 expect "--shown without a sheet is misuse" status 2 "$build/checklist" --shown="$work/shown.csv"
 expect "a report that cannot be written is told" sh -c "'$build/checklist' > /dev/full 2> '$work/errors'
     test \$? -eq 1 && grep -q '^checklist: standard output: No space left on device' '$work/errors'"

@@ -1,8 +1,8 @@
 """commands.py TREE PAGE...: runs every command that the pages show, in their order, with the programs of an installation, and
 compares what it prints. A Markdown page's commands stand in indented blocks behind "$ ", a man page's in its displays; the lines
 up to the next command are the output, where "..." at a line's end or alone stands for more. "cat FILE" makes the file: its lines
-are what is shown. Inside a sentence a page may name a program with a use, options and words in capitals, all of which the program
-must have, and nothing that would have to be run. Prints "commands: N checks, M failures"."""
+are what is shown. A page's words of the programs are held to what these have: "airstate-sheet table" must be a use of
+airstate-sheet. Prints "commands: N checks, M failures"."""
 
 import os
 import re
@@ -24,8 +24,7 @@ def blocks(page):
     """the displays of a page, each a list of lines"""
     text = page.read_text()
     if page.suffix == ".md":
-        found = re.findall(r"^    .*(?:\n(?:[ \t]*\n)*    .*)*", text, re.MULTILINE)
-        return [[line[4:] for line in block.splitlines()] for block in found]
+        return [[line[4:] for line in found.splitlines()] for found in re.findall(r"(?:^    .*\n?)+", text, re.MULTILINE)]
     displays = re.findall(r"^\.Bd -literal[^\n]*\n(.*?)^\.Ed", text, re.MULTILINE | re.DOTALL)
     return [unroff(found).splitlines() for found in [*displays, *re.findall(r"^\.Dl (.*)$", text, re.MULTILINE)]]
 
@@ -64,34 +63,25 @@ def run(command, shown, folder, environment):
 
 
 def uses(tree):
-    """of each program the words behind its name and the options that its help shows"""
+    """the words behind each program's name that its help shows"""
     found = {}
     for program in ("sheet", "plot", "checklist"):
         text = subprocess.run([tree / "bin" / f"airstate-{program}", "--help"], check=True, capture_output=True).stdout.decode()
-        found[f"airstate-{program}"] = set(re.findall(rf"airstate-{program} ([a-z]+)\b", text)) | set(re.findall(r"--[a-z0-9-]+", text))
-    return {**found, "airstate-listing": set()}
+        found[f"airstate-{program}"] = set(re.findall(rf"airstate-{program} ([a-z]+)\b", text))
+    return found
 
 
 def named(page, known):
-    """each program that a sentence names with words behind it, with what is wrong with these or nothing"""
-    for span in re.findall(r"`(airstate-[a-z]+ [^`]+)`", page.read_text()):
-        program, *rest = span.split()
-        for word in rest:
-            option = word.split("=")[0]
-            is_place = re.search(r"[A-Z]{3}", word) and not word.startswith("-")
-            if option not in known.get(program, ()) and not is_place:
-                yield span, f"'{word}' is no use of the program; a command that can be run stands in a display"
-                break
-        else:
-            yield span, ""
+    """each "airstate-sheet WORD" of a page, with whether there is such a use"""
+    for program, word in re.findall(r"(?<![\w-])(airstate-(?:sheet|plot|checklist))`? ([a-z]+)`", page.read_text()):
+        yield f"{program} {word}", word in known.get(program, ())
 
 
 def prepare(tree, folder):
-    """the files that pages take for granted: the samples, two sheets, and one of runs"""
+    """the files that pages take for granted: the samples, a sheet, and one of runs"""
     for sample in (tree / "share" / "airstate" / "samples").iterdir():
         (folder / sample.name).write_bytes(sample.read_bytes())
-    for sheet in ("sheet.eas", "lab.eas"):
-        (folder / sheet).write_bytes((folder / "sample.eas").read_bytes())
+    (folder / "sheet.eas").write_bytes((folder / "sample.eas").read_bytes())
     text = b"name,pressure_Pa,density_kg_m3\nnozzle 1,1251,0.04\nreservoir,13211000,9.753\n"
     subprocess.run([tree / "bin" / "airstate-sheet", "pack", "-o", folder / "runs.eas"], input=text, check=True, capture_output=True)
 
@@ -112,10 +102,10 @@ def main(tree, *pages):
                     checks += 1
                     if fault := run(command, shown, Path(folder), environment):
                         failures.append(f"{page}: {fault}")
-        for span, fault in named(page, known):
+        for use, is_known in named(page, known):
             checks += 1
-            if fault:
-                failures.append(f"{page}: {span}: {fault}")
+            if not is_known:
+                failures.append(f"{page}: {use} is no use of the program")
     print("\n".join([*failures, f"commands: {checks} checks, {len(failures)} failures"]))
     sys.exit(len(failures) > 0)
 

@@ -215,11 +215,6 @@ cp "$work/two.eas" "$folder/lab.eas"
 for call in "flush file" rename lock; do
     expect "a failed $call" kept "Input/output error" "$folder/lab.eas" grows between FAIL="$call"
 done
-packs_unlocked() {
-    cp "$work/two.eas" "$folder/packed.eas" && between FAIL=lock "$tool" pack -o "$folder/packed.eas" "$work/lab.csv" &&
-        cmp "$folder/packed.eas" "$work/one.eas" && rm "$folder/packed.eas"
-}
-expect "a pack that finds no locks writes, since nothing is changed in place there" packs_unlocked
 expect "another file needs no lock" between FAIL=lock "$tool" add -o "$work/grown.eas" new 1 1 1 "$folder/lab.eas"
 # ended STATUS SIGNAL: the tool is ended in place of the rename, and the sheet stays.
 ended() {
@@ -312,7 +307,6 @@ held() {
 }
 expect "an add in place waits for the lock" held "$tool" add -o "$folder/lab.eas" x 1 1 1 "$folder/lab.eas"
 expect "a conversion in place waits for the lock" held "$tool" back -o "$folder/lab.eas" "$folder/lab.eas"
-expect "a pack over the sheet waits for the lock" held "$tool" pack -o "$folder/lab.eas" "$work/lab.csv"
 expect "a reader does not" flock "$folder/lab.eas" "$tool" list "$folder/lab.eas"
 from_standard_input() {
     flock "$folder/lab.eas" "$tool" add -o "$folder/lab.eas" x 1 1 1 < "$folder/lab.eas"
@@ -320,24 +314,4 @@ from_standard_input() {
 expect "an add to standard input's sheet does not" from_standard_input
 expect "an add to another file does not" flock "$folder/lab.eas" \
     "$tool" add -o "$folder/new.eas" y 1 1 1 "$folder/lab.eas"
-
-# A pack over a sheet to which states are being added, 20 times: none of these writes the old states back.
-printf 'name,pressure_Pa,density_kg_m3\npacked-1,101330,1.292\npacked-2,202660,1.292\n' > "$work/packed.csv"
-pack_beside_adds() {
-    "$tool" forward -o "$folder/lab.eas" "$small" || return 1
-    adders=
-    for i in 1 2 3 4; do
-        "$tool" add -o "$folder/lab.eas" "n$i" 1 101330 1.292 "$folder/lab.eas" &
-        adders="$adders $!"
-    done
-    "$tool" pack --version-2 -o "$folder/lab.eas" "$work/packed.csv" || return 1
-    for adder in $adders; do
-        wait "$adder" || return 1
-    done
-    "$tool" list "$folder/lab.eas" > "$work/listed" &&
-        test "$(echo $(head -n 2 "$work/listed" | cut -d ' ' -f 1))" = "packed-1 packed-2"
-}
-for round in $(seq 20); do
-    expect "what is packed beside adds stays, round $round" pack_beside_adds
-done
 finish files

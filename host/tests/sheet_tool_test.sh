@@ -5,7 +5,16 @@ cd "$(dirname "$0")/.." || exit 1
 tool=$1/sheet_tool
 test -x "$tool" || { skip "sheet_tool was not built"; finish sheet_tool; }
 
-. tests/texts.sh
+# text FORMAT: the text at hand, as printf writes it.
+text() {
+    printf "$1" > "$work/text.csv"
+}
+
+# packs TEXT: packing the text and unpacking it with spelled names gives the text's lines below the heading.
+packs() {
+    "$tool" pack -o "$work/sheet.eas" "$work/text.csv" && "$tool" unpack --spelled "$work/sheet.eas" > "$work/back" &&
+        tail -n +2 "$work/back" > "$work/lines" && printf "$1" | cmp - "$work/lines"
+}
 
 # told: what was said before the last line, which has the states, the bytes and how many will be refused.
 told() {
@@ -16,7 +25,7 @@ told() {
 # right WHAT TEXT LINES: the text is packed, and nothing but its states is told; unpacked it has these lines.
 right() {
     text "$2"
-    expect "$1" packed "$3"
+    expect "$1" packs "$3"
     told > "$work/notes"
     expect "$1: no message" test $? -eq 0 -a ! -s "$work/notes"
 }
@@ -24,8 +33,14 @@ right() {
 # noted WHAT TEXT LINES NOTE: the text is packed with this note.
 noted() {
     text "$2"
-    expect "$1" packed "$3"
+    expect "$1" packs "$3"
     expect "$1: the note" test "$(told)" = "sheet_tool: $work/text.csv: $4"
+}
+
+# wrong WHAT TEXT MESSAGE: the text is refused with this message and nothing is written.
+wrong() {
+    text "$2"
+    ends "$1" 1 "sheet_tool: $work/text.csv: $3" "$tool" pack "$work/text.csv"
 }
 
 whole='kind,first,density\n'

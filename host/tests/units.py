@@ -8,7 +8,7 @@ import sys
 from fractions import Fraction
 
 UNITS = {
-    "pressure": {"Pa": 1, "hPa": 100, "kPa": 1000, "MPa": 10**6, "GPa": 10**9, "mPa": Fraction(1, 1000), "mbar": 100, "bar": 10**5, "atm": 101325,
+    "pressure": {"Pa": 1, "hPa": 100, "kPa": 1000, "MPa": 10**6, "mbar": 100, "bar": 10**5, "atm": 101325,
                  "Torr": Fraction(101325, 760), "psi": Fraction("0.45359237") * Fraction("9.80665") / Fraction("0.0254") ** 2},
     "energy": {"J/kg": 1, "kJ/kg": 1000, "MJ/kg": 10**6},
     "density": {"kg/m3": 1, "g/cm3": 1000, "g/l": 1},

@@ -26,34 +26,22 @@ static bool is_at(int file, const char *path) {
            open_one.st_ino == there.st_ino;
 }
 
-/* Locks the file at the path until the program ends; false, by errno, where that cannot be. */
-static bool lock_until_end(const char *path, bool *is_open) {
+/* Locks the file at the path until the program ends. 0 is success. */
+static int lock_until_end(const char *path) {
     static int file;
     while ((file = open(path, O_RDWR | O_CLOEXEC)) >= 0) {
-        *is_open = true;
         if (flock(file, LOCK_EX) != 0)
-            return false;
+            return refuse("%s: it cannot be locked, and what another program adds could be lost: %s", path,
+                          strerror(errno));
         if (is_at(file, path))
-            return true;
+            return DONE;
         close(file);
     }
-    *is_open = false;
-    return false;
+    return refuse_file(path);
 }
 
 int load_to_change(const char *input, const char *output, uint8_t sheet[SHEET_MOST + 1], size_t *n) {
-    bool is_open;
-    if (is_one_place(input, output) && !lock_until_end(input, &is_open))
-        return is_open ? refuse("%s: it cannot be locked, and what another program adds could be lost: %s", input,
-                                strerror(errno))
-                       : refuse_file(input);
+    if (is_one_place(input, output) && lock_until_end(input))
+        return REFUSED;
     return load_sheet(input, sheet, n);
-}
-
-/* What cannot be opened is told when it is written; where the file system has no locks nothing is changed in place. */
-void wait_for_changes(const char *output) {
-    struct stat s;
-    bool is_open;
-    if (!is_standard(output) && stat(output, &s) == 0 && S_ISREG(s.st_mode))
-        lock_until_end(output, &is_open);
 }

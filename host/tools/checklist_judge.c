@@ -25,12 +25,12 @@ double in_units(const eas_record *record, int64_t value) {
 }
 
 /* How large the unit is in which a mark shows a value less exactly than an answer, else 0. */
-static double mark_unit(const eas_record *record, const showing *s) {
+static double mark_unit(const eas_record *record, const shown *s) {
     const kind_row *kind = kind_of(record->kind);
     return s->has_z || kind->mark_decimals == kind->wanted->decimals ? 0 : pow(10, -(double)kind->mark_decimals);
 }
 
-double shown_in_units(const eas_record *record, const showing *s) {
+double shown_in_units(const eas_record *record, const shown *s) {
     double unit = mark_unit(record, s);
     return unit > 0 ? unit * (double)s->value : in_units(record, s->value);
 }
@@ -50,8 +50,8 @@ static bool read_number(const char **at, int64_t *number) {
 }
 
 /* Behind the name, a refusal with its number, or a letter with three numbers. */
-static showing read_line(const listing_line *line) {
-    showing s = {.has_z = true};
+static shown read_line(const listing_line *line) {
+    shown s = {.has_z = true};
     char text[LINE_MOST + 1];
     int64_t number = 0;
     memcpy(text, line->bytes, line->length);
@@ -69,9 +69,9 @@ static showing read_line(const listing_line *line) {
     return s;
 }
 
-static showing read_mark(const eas_mark *mark) {
+static shown read_mark(const eas_mark *mark) {
     const double most = 9007199254740992.0;
-    showing s = {.number = mark->blank};
+    shown s = {.number = mark->blank};
     s.readable = mark->blank || (fabs(mark->point.across) < most && fabs(mark->point.up) < most);
     if (s.readable && !mark->blank) {
         s.y = (int64_t)mark->point.across - 7000000;
@@ -80,10 +80,10 @@ static showing read_mark(const eas_mark *mark) {
     return s;
 }
 
-showing shown_by(const asked_name *name, way w) {
+shown shown_by(const asked_name *name, way w) {
     const eas_answer *a = &name->answer;
     if (w == BY_SEARCH)
-        return (showing){true, true, a->number, a->y, a->z, a->value};
+        return (shown){true, true, a->number, a->y, a->z, a->value};
     return w == BY_PLOT ? read_mark(&name->mark) : read_line(&name->lines[w]);
 }
 
@@ -107,7 +107,7 @@ static double off_by(double value, double unit, double from) {
 
 /* Where the library's answer is wrong: a mark that shows less of it may show what is right. */
 static bool shows_right(const eas_mark *mark, const named_state *s) {
-    showing m = read_mark(mark);
+    shown m = read_mark(mark);
     double unit = mark_unit(&s->record, &m), value = shown_in_units(&s->record, &m);
     return unit > 0 && m.readable && !m.number && !s->right.number && off_by(value, unit, s->right.value) == 0;
 }
@@ -126,7 +126,7 @@ static bool is_right(const asked_name *name, const named_state *s, way w) {
 /* ---- what is wrong */
 
 /* A refusal is another state's only where the name is the number of that state's row. */
-size_t state_shown(const asked_sheet *sheet, const asked_name *name, const showing *s) {
+size_t state_shown(const asked_sheet *sheet, const asked_name *name, const shown *s) {
     const named_state *own = &sheet->states[name->state];
     uint64_t row = !name->absent && has_digits_only(sheet, own) ? number_in_name(sheet, own) : UINT64_MAX;
     for (size_t i = 0; s->readable && i < sheet->parsed.count; i++) {
@@ -199,7 +199,7 @@ static cause cause_of(const asked_sheet *sheet, const asked_name *name, way w) {
         return cause_by_twin(name, w);
     if (name->absent)
         return FOUND_ABSENT;
-    showing s = shown_by(name, w);
+    shown s = shown_by(name, w);
     if (!s.readable || (s.number >= 7 && s.number <= 9))
         return NOT_FOUND;
     if (state_shown(sheet, name, &s) != SIZE_MAX)

@@ -51,9 +51,9 @@ typedef struct {
     bool readable, has_z;
     uint32_t number;
     int64_t y, z, value;
-} showing;
+} shown;
 
-showing shown_by(const asked_name *name, way w);
+shown shown_by(const asked_name *name, way w);
 
 /* A name with what is wrong by each way. */
 typedef struct {
@@ -88,10 +88,10 @@ cause cause_by_value(double value, double unit, const right_state *right);
 void judge_sheet(const asked_sheet *sheet, tally tallies[TALLIES]);
 
 /* The state other than the name's own whose answer this is; SIZE_MAX where there is none. */
-size_t state_shown(const asked_sheet *sheet, const asked_name *name, const showing *s);
+size_t state_shown(const asked_sheet *sheet, const asked_name *name, const shown *s);
 
 /* An answer's value, and what is shown of it, in kelvin, J/(kg K) or pascal. */
 double in_units(const eas_record *record, int64_t value);
-double shown_in_units(const eas_record *record, const showing *s);
+double shown_in_units(const eas_record *record, const shown *s);
 
 #endif

@@ -84,7 +84,7 @@ static void print_part(const fault *f, way w) {
 
 static void print_shown(const fault *f, way w) {
     const named_state *state = &f->sheet->states[f->name->state];
-    showing s = shown_by(f->name, w);
+    shown s = shown_by(f->name, w);
     char text[TEXT_ROOM];
     if (!s.readable)
         snprintf(text, sizeof text, "no line that can be read");

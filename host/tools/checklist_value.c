@@ -4,12 +4,56 @@
 #include <stdlib.h>
 #include <string.h>
 
-#include "fields.h"
+#include "kinds.h"
 
-enum { NUMBER_MOST = 64 };
+/* The units that are read, as powers of ten of the SI unit. */
+static const struct {
+    const char *unit, *of;
+    int power;
+} units[] = {
+    {"K", "K", 0},
+    {"Pa", "Pa", 0},
+    {"mPa", "Pa", -3},
+    {"hPa", "Pa", 2},
+    {"mbar", "Pa", 2},
+    {"kPa", "Pa", 3},
+    {"bar", "Pa", 5},
+    {"MPa", "Pa", 6},
+    {"GPa", "Pa", 9},
+    {"J/(kg K)", "J/(kg K)", 0},
+    {"J/kg/K", "J/(kg K)", 0},
+    {"kJ/(kg K)", "J/(kg K)", 3},
+    {"kJ/kg/K", "J/(kg K)", 3},
+};
+
+enum { UNITS = sizeof units / sizeof *units, NUMBER_MOST = 64 };
+
+static bool is_unit(field f, const char *unit) {
+    return f.length == strlen(unit) && !memcmp(f.bytes, unit, f.length);
+}
+
+/* The SI unit of a unit and its power of ten; none is no error. */
+static bool find_unit(field unit, const char **of, int *power) {
+    *of = NULL;
+    *power = 0;
+    for (int i = 0; i < UNITS; i++)
+        if (is_unit(unit, units[i].unit)) {
+            *of = units[i].of;
+            *power = units[i].power;
+        }
+    return *of || unit.length == 0;
+}
+
+static field trimmed(field f) {
+    for (; f.length > 0 && f.bytes[0] == ' '; f.length--)
+        f.bytes++;
+    while (f.length > 0 && f.bytes[f.length - 1] == ' ')
+        f.length--;
+    return f;
+}
 
 static bool is_blank(field f) {
-    return f.length == 0 || equals(f, "blank") || equals(f, "nan") || equals(f, "-");
+    return f.length == 0 || field_is(f, "blank") || field_is(f, "nan") || field_is(f, "-");
 }
 
 /* The power of ten of a number's last digit: 1.50 has -2, 1.5e3 has 2. */
@@ -20,40 +64,29 @@ static int last_digit(const char *number) {
     return (exponent ? (int)strtol(exponent + 1, NULL, 10) : 0) - decimals;
 }
 
-/* Copies a number with a point; false where it has other signs than a number's. */
-static bool copy_number(char out[NUMBER_MOST + 1], field f, bool comma) {
-    size_t n = strspn(f.text, comma ? "+-.,0123456789eE" : "+-.0123456789eE");
-    if (n < f.length || f.length > NUMBER_MOST)
-        return false;
-    memcpy(out, f.text, f.length);
-    out[f.length] = 0;
-    for (char *at; (at = strchr(out, ','));)
-        *at = '.';
-    return true;
-}
-
-const char *read_shown(const shown_line *line, bool comma, shown_value *v) {
-    field value = trimmed(line->value), unit = trimmed(line->unit);
+const char *read_shown(const text_row *row, shown_value *v) {
+    field value = trimmed(row->fields[VALUE_FIELD]), unit = trimmed(row->fields[UNIT_FIELD]);
     char text[NUMBER_MOST + 1], *end;
+    int power;
     *v = (shown_value){.blank = is_blank(value)};
     if (v->blank)
         return NULL;
-    if (!copy_number(text, value, comma))
+    if (value.length > NUMBER_MOST || strspn(value.bytes, "+-.0123456789eE") < value.length)
         return "the value is no number";
+    memcpy(text, value.bytes, value.length);
+    text[value.length] = 0;
     long double number = strtold(text, &end);
     if (end == text || *end || !isfinite(number))
         return "the value is no number";
-    v->unit = unit_named(unit);
-    if (!v->unit && unit.length > 0)
+    if (!find_unit(unit, &v->unit, &power))
         return "the unit is not known";
-    long double factor = v->unit ? (long double)v->unit->over / (long double)v->unit->under : 1;
-    v->value = number * factor;
-    v->digit = powl(10, last_digit(text)) * factor;
+    v->value = number * powl(10, power);
+    v->digit = powl(10, last_digit(text) + power);
     return NULL;
 }
 
 bool is_in_unit_of(const shown_value *v, const named_state *s) {
-    return !v->unit || is_unit_of(v->unit, kind_of(s->record.kind)->wanted);
+    return !v->unit || !strcmp(v->unit, kind_of(s->record.kind)->wanted->unit);
 }
 
 /* Half a digit for what is rounded, a whole one for what is cut; digits beyond those of an answer say nothing more. */

@@ -3,19 +3,17 @@
 #define CHECKLIST_VALUE_H
 
 #include "checklist_ask.h"
-#include "checklist_lines.h"
-#include "units.h"
+#include "checklist_rows.h"
 
 typedef struct {
     bool blank;
-    const unit *unit;  /* null where the line says none */
-    long double value; /* in the SI unit */
+    const char *unit;  /* the SI unit that it is in, null where the line says none */
+    long double value; /* in that unit */
     long double digit; /* what one more in the last digit that was shown is */
 } shown_value;
 
-/* Reads the value, in which a comma may stand for the point, and the unit of a line. Null, or why they cannot be read.
- */
-const char *read_shown(const shown_line *line, bool comma, shown_value *v);
+/* Reads the value and the unit of a line. Null, or why they cannot be read. */
+const char *read_shown(const text_row *row, shown_value *v);
 
 /* Whether it is in a unit of what is wanted of the state. */
 bool is_in_unit_of(const shown_value *v, const named_state *s);

@@ -23,15 +23,21 @@ static int column_called(field f, const unit **in) {
     for (int column = 0; column < FIRST_GIVEN; column++)
         if (equals(f, headings[column]))
             return column;
-    int of;
-    *in = unit_called(f, &of);
-    return *in ? FIRST_GIVEN + of : COLUMNS;
+    *in = unit_called(f);
+    return *in ? column_given((*in)->of) : COLUMNS;
 }
 
 field cell(const columns *c, const row *r, int column) {
     size_t at = c->place[column];
     field f = at > 0 && at <= r->count ? r->fields[at - 1] : (field){"", 0};
     return column == NAME || column == REMARK ? f : trimmed(f);
+}
+
+bool is_blank_row(const row *r) {
+    for (size_t i = 0; i < r->count; i++)
+        if (trimmed(r->fields[i]).length > 0)
+            return false;
+    return true;
 }
 
 /* Whether some kind can be given in full by the text's columns. */
@@ -108,8 +114,7 @@ static void place_headings(columns *c, const row *r) {
         if (column == COLUMNS)
             continue;
         if (c->place[column] && in)
-            complain(c->told, r, "two columns have the %s: '%s' is the second", given[column - FIRST_GIVEN]->name,
-                     shown(f));
+            complain(c->told, r, "two columns have the %s: '%s' is the second", in->of->name, shown(f));
         else if (c->place[column])
             complain(c->told, r, "the heading '%s' stands twice", shown(f));
         else

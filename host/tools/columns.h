@@ -31,6 +31,9 @@ bool read_headings(columns *c, const row *r, bool needs_names, bool tells);
 /* Whether lines that begin with # can be no rows: the first column has no free text. */
 bool may_have_comments(const columns *c);
 
+/* Whether every field is empty. */
+bool is_blank_row(const row *r);
+
 /* The field of a column; empty where the text or the row has none. */
 field cell(const columns *c, const row *r, int column);
 

@@ -51,8 +51,4 @@ void tell_refusal(char reason[REFUSAL_ROOM], uint8_t *sheet, size_t n, uint32_t 
  * and until this one ends none does. */
 int load_to_change(const char *input, const char *output, uint8_t sheet[SHEET_MOST + 1], size_t *n);
 
-/* Before a sheet is replaced by another as a whole: waits for who changes it in that way, so that none of them writes
- * the old states over the new ones. */
-void wait_for_changes(const char *output);
-
 #endif

@@ -19,9 +19,7 @@ typedef struct {
     columns c;
     row_taker taker;
     FILE *out;
-    bool has_heading, is_unusable, shows;
-    char sign;      /* before an answer's decimals: a point or a comma */
-    bool is_signed; /* the text has shown it */
+    bool has_heading, is_unusable, comma, shows;
     unsigned long rows;
     time_t shown;
 } evaluation;
@@ -34,13 +32,12 @@ static void show_progress(evaluation *e) {
     fprintf(stderr, "\r%lu rows", e->rows);
 }
 
-/* The row's own fields, quoted as where this sign parts them. */
-static void write_fields(const evaluation *e, const row *r, char quoted_for) {
+static void write_fields(const evaluation *e, const row *r) {
     for (size_t i = 0; i < r->count || i < e->c.width; i++) {
         if (i > 0)
             fputc(e->taker.delimiter, e->out);
         if (i < r->count)
-            write_field(e->out, quoted_for, r->fields[i].text, r->fields[i].length);
+            write_field(e->out, e->taker.delimiter, r->fields[i].text, r->fields[i].length);
     }
 }
 
@@ -53,10 +50,8 @@ static void write_cells(const evaluation *e, const char *const cells[ANSWER_HEAD
     fputc('\n', e->out);
 }
 
-/* In the heading every comma is quoted: a reader takes the first sign outside quotes for the delimiter. */
 static void take_heading(evaluation *e, const row *r) {
     e->c.comma = e->taker.delimiter != ',';
-    e->sign = e->taker.delimiter == ';' ? ',' : '.';
     e->has_heading = true;
     e->is_unusable = !read_headings(&e->c, r, false, false);
     e->taker.comments = may_have_comments(&e->c);
@@ -66,30 +61,27 @@ static void take_heading(evaluation *e, const row *r) {
                 e->is_unusable = !complain(&e->told, r, "there is a column '%s' already", answer_headings[k]);
     if (e->is_unusable)
         return;
-    write_fields(e, r, ',');
+    write_fields(e, r);
     write_cells(e, answer_headings);
 }
 
-/* Answers have the decimal sign of the text's first number that has one. Until then fields that are parted by
- * semicolons speak for a comma. */
-static void look_for_sign(evaluation *e, const row *r) {
-    for (int column = FIRST_GIVEN; column < COLUMNS && !e->is_signed; column++) {
+/* Whether one of the row's numbers has a decimal comma. */
+static bool has_comma(const evaluation *e, const row *r) {
+    for (int column = FIRST_GIVEN; column < COLUMNS; column++) {
         field f = cell(&e->c, r, column);
-        const char *comma = e->c.comma ? memchr(f.text, ',', f.length) : NULL;
-        if (comma || memchr(f.text, '.', f.length)) {
-            e->sign = comma ? ',' : '.';
-            e->is_signed = true;
-        }
+        if (e->c.comma && memchr(f.text, ',', f.length))
+            return true;
     }
+    return false;
 }
 
 static void write_answer(evaluation *e, const row_state *s) {
     char value[DECIMAL_ROOM], number[16] = "";
     eas_answer answer = eas_evaluate(s->kind->kind, s->first, s->second);
     write_value(value, answer.value, s->kind->wanted->decimals);
-    char *point = strchr(value, '.');
+    char *point = e->comma ? strchr(value, '.') : NULL;
     if (point)
-        *point = e->sign;
+        *point = ',';
     if (answer.number)
         snprintf(number, sizeof number, "%u", answer.number);
     write_cells(e, (const char *const[]){answer.number ? "" : value, answer.number ? "" : s->kind->wanted->unit, number,
@@ -106,8 +98,8 @@ static void take(void *data, const row *r) {
         return;
     }
     show_progress(e);
-    write_fields(e, r, e->taker.delimiter);
-    look_for_sign(e, r);
+    write_fields(e, r);
+    e->comma |= has_comma(e, r);
     if (read_row_state(&e->c, r, &s))
         write_answer(e, &s);
     else
@@ -115,41 +107,32 @@ static void take(void *data, const row *r) {
 }
 
 /* Ends the line that shows how far it is, and tells what was not told. */
-static void finish(const evaluation *e) {
+static int finish(const evaluation *e) {
     if (e->shown)
         fputc('\n', stderr);
     tell_untold(&e->told);
     if (e->told.rounded > 0)
         refuse("%s: %lu number%s rounded", e->told.input, e->told.rounded, e->told.rounded == 1 ? "" : "s");
+    if (!e->has_heading)
+        return refuse("%s: empty: a heading and states are wanted", e->told.input);
+    return e->told.count ? REFUSED : DONE;
 }
 
-int eval_text(const char *name, FILE *in, FILE *out, bool round, bool *usable) {
+int eval_rows(const char *input, const char *output, bool round) {
     static evaluation e;
-    e = (evaluation){.told = {.input = name},
+    FILE *in = open_input(input), *out = in ? open_output(output) : NULL;
+    if (!out)
+        return REFUSED;
+    e = (evaluation){.told = {.input = input_name(input)},
                      .taker = {.take = take, .data = &e, .comments = true},
                      .out = out,
                      .shows = isatty(STDERR_FILENO) != 0};
     e.c.told = &e.told;
     e.c.round = round;
-    bool whole = read_rows(in, &e.taker);
-    if (!whole)
-        refuse("%s: %s", name, e.taker.fault);
-    finish(&e);
-    if (whole && !e.has_heading)
-        refuse("%s: empty: a heading and states are wanted", name);
-    *usable = whole && e.has_heading && !e.is_unusable;
-    return *usable && e.told.count == 0 ? DONE : REFUSED;
-}
-
-int eval_rows(const char *input, const char *output, bool round) {
-    FILE *in = open_input(input), *out = in ? open_output(output) : NULL;
-    bool usable;
-    if (!out)
-        return REFUSED;
-    int wrong = eval_text(input_name(input), in, out, round, &usable);
+    int failed = read_rows(e.told.input, in, &e.taker), wrong = finish(&e);
     if (in != stdin)
         fclose(in);
-    if (!usable) {
+    if (failed || !e.has_heading || e.is_unusable) {
         drop_output(out);
         return REFUSED;
     }

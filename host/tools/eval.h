@@ -3,14 +3,10 @@
 #define EVAL_H
 
 #include <stdbool.h>
-#include <stdio.h>
 
 /* Writes the rows of a text of states, each with its answer behind it; a row that cannot be read has the reason there.
- * A text that is no CSV, or whose headings cannot be used, is not usable. Tells every failure; 0 is success, and every
- * row was read. */
-int eval_text(const char *name, FILE *in, FILE *out, bool round, bool *usable);
-
-/* The same with files; of a text that is not usable none is written. */
+ * Of a text that is no CSV, or whose headings cannot be used, no file is written. Tells every failure; 0 is success,
+ * and every row was read. */
 int eval_rows(const char *input, const char *output, bool round);
 
 /* Writes the answer for one state, its values in SI units. */

@@ -25,13 +25,6 @@ field trimmed(field f) {
     return f;
 }
 
-bool is_blank_row(const row *r) {
-    for (size_t i = 0; i < r->count; i++)
-        if (trimmed(r->fields[i]).length > 0)
-            return false;
-    return true;
-}
-
 const char *shown(field f) {
     static char text[SHOWN + 8];
     size_t used = 0;

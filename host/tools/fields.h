@@ -13,9 +13,6 @@ field field_of(const char *text);
 /* Without the spaces and tabs around it. */
 field trimmed(field f);
 
-/* Whether every field is empty. */
-bool is_blank_row(const row *r);
-
 /* For a message: about 60 bytes, those that cannot be shown as question marks. A later call writes over it. */
 const char *shown(field f);
 

@@ -98,15 +98,15 @@ static bool read_entry_remark(packing *p, const row *r, entry *e) {
     return true;
 }
 
-/* Looks the name up in the sheet so far and in the full ones. */
+/* Looks the name up in the sheet so far. */
 static bool is_new(packing *p, const row *r, const entry *e) {
     uint8_t spelled[SPELLED_MOST];
     size_t length = eas_spell(e->name, e->length, spelled, sizeof spelled).length;
     eas_record found = eas_find(p->bytes, p->n, spelled, length);
-    unsigned long line = found.number == EAS_NAME_ABSENT ? line_in_parts(&p->parts, e->name, e->length)
-                                                         : p->line[record_at(p->bytes, found.start)];
-    return line == 0 ||
-           complain(&p->told, r, "refusal %u: %s, on line %lu", EAS_NAME_REPEATED, eas_reason(EAS_NAME_REPEATED), line);
+    if (found.number == EAS_NAME_ABSENT)
+        return true;
+    return complain(&p->told, r, "refusal %u: %s, on line %lu", EAS_NAME_REPEATED, eas_reason(EAS_NAME_REPEATED),
+                    p->line[record_at(p->bytes, found.start)]);
 }
 
 static void begin_sheet(packing *p) {
@@ -119,7 +119,7 @@ static void begin_sheet(packing *p) {
 static bool has_room(packing *p, const row *r, const entry *e) {
     if (length_with(p->bytes, p->n, e->length, e->remark_length) <= SHEET_MOST)
         return true;
-    if (p->how->split && keep_part(&p->parts, p->bytes, p->n, p->line)) {
+    if (p->how->split && keep_part(&p->parts, p->bytes, p->n)) {
         begin_sheet(p);
         return true;
     }
@@ -171,7 +171,7 @@ static int refuse_full(const packing *p) {
 /* Reads a text into a sheet and, where it is to be split, the parts before it. */
 static int pack_rows(packing *p, FILE *in) {
     begin_sheet(p);
-    int failed = read_rows(in, &p->taker) ? DONE : refuse("%s: %s", p->told.input, p->taker.fault);
+    int failed = read_rows(p->told.input, in, &p->taker);
     tell_untold(&p->told);
     if (p->looks_spelled > COMPLAINTS_MOST)
         refuse("%s: note: %lu more names look spelled", p->told.input, p->looks_spelled - COMPLAINTS_MOST);
@@ -217,8 +217,6 @@ int pack(const char *input, const char *output, const pack_options *how) {
     int failed = pack_rows(p, in);
     if (in != stdin)
         fclose(in);
-    if (!failed && !how->split)
-        wait_for_changes(output);
     if (!failed)
         failed = how->split ? write_parts(&p->parts, output, sheet, p->n) : write_output(output, sheet, p->n);
     if (!failed)

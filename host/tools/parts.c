@@ -1,30 +1,13 @@
 #include "parts.h"
 
 #include <limits.h>
-#include <search.h>
 #include <stdlib.h>
 #include <string.h>
 
 #include "common.h"
 #include "options.h"
 
-static int by_name(const void *a, const void *b) {
-    return compare_names(((const named_line *)a)->record, ((const named_line *)b)->record);
-}
-
-/* Puts the names of a kept sheet into the tree; false where there is no memory. */
-static bool keep_names(sheet_parts *p, sheet_part *part, const unsigned long *lines) {
-    size_t at = HEAD;
-    for (unsigned i = 0; i < record_count(part->bytes); i++) {
-        part->names[i] = (named_line){part->bytes + at, lines[i]};
-        if (!tsearch(&part->names[i], &p->names, by_name))
-            return false;
-        next_state(part->bytes, &at);
-    }
-    return true;
-}
-
-bool keep_part(sheet_parts *p, const uint8_t *bytes, size_t n, const unsigned long *lines) {
+bool keep_part(sheet_parts *p, const uint8_t *bytes, size_t n) {
     if (p->count == p->room) {
         size_t room = 2 * p->room + 8;
         sheet_part *full = realloc(p->full, room * sizeof *full);
@@ -33,31 +16,19 @@ bool keep_part(sheet_parts *p, const uint8_t *bytes, size_t n, const unsigned lo
         p->full = full;
         p->room = room;
     }
-    sheet_part *part = &p->full[p->count++];
-    *part = (sheet_part){malloc(n), n, calloc(record_count(bytes), sizeof *part->names)};
-    if (!part->bytes || !part->names)
+    sheet_part *part = &p->full[p->count];
+    part->n = n;
+    part->bytes = malloc(n);
+    if (!part->bytes)
         return false;
     memcpy(part->bytes, bytes, n);
-    return keep_names(p, part, lines);
-}
-
-unsigned long line_in_parts(const sheet_parts *p, const uint8_t *name, size_t n) {
-    uint8_t record[1 + NAME_MOST] = {(uint8_t)n};
-    memcpy(record + 1, name, n);
-    named_line *const *found = tfind(&(named_line){record, 0}, &p->names, by_name);
-    return found ? (*found)->line : 0;
-}
-
-static void keep_it(void *line) {
-    (void)line;
+    p->count++;
+    return true;
 }
 
 void free_parts(sheet_parts *p) {
-    tdestroy(p->names, keep_it);
-    for (size_t i = 0; i < p->count; i++) {
+    for (size_t i = 0; i < p->count; i++)
         free(p->full[i].bytes);
-        free(p->full[i].names);
-    }
     free(p->full);
     *p = (sheet_parts){.full = NULL};
 }
@@ -73,10 +44,7 @@ static int write_part(const char *output, size_t number, const uint8_t *bytes, s
     const char *slash = strrchr(output, '/'), *name = slash ? slash + 1 : output, *dot = strrchr(name, '.');
     int before = (int)(dot && dot > name ? (size_t)(dot - output) : strlen(output));
     int length = snprintf(path, sizeof path, "%.*s-%zu%s", before, output, number, output + before);
-    if (length >= PATH_MAX)
-        return refuse("%s: the name is too long", output);
-    wait_for_changes(path);
-    return write_output(path, bytes, n);
+    return length < PATH_MAX ? write_output(path, bytes, n) : refuse("%s: the name is too long", output);
 }
 
 int write_parts(const sheet_parts *p, const char *output, const uint8_t *last, size_t n) {

@@ -6,37 +6,24 @@
 #include "complaints.h"
 #include "record.h"
 
-/* More than any refusal's number. */
-enum { REFUSALS = 32 };
+enum { REFUSALS = 20 };
 
-/* A name, by the record that begins with it, and the line of the text that it stands on. */
-typedef struct {
-    const uint8_t *record;
-    unsigned long line;
-} named_line;
-
-/* A full sheet with its names. */
+/* A full sheet. */
 typedef struct {
     uint8_t *bytes;
     size_t n;
-    named_line *names;
 } sheet_part;
 
-/* The full sheets, their names as a tree of the C library's, and how many states there are, by the number with which
- * they are refused. */
+/* The full sheets, and how many states there are, by the number with which they are refused. */
 typedef struct {
     sheet_part *full;
     size_t count, room;
-    void *names;
     unsigned long states[REFUSALS];
 } sheet_parts;
 
-/* Keeps a copy of a full sheet and the line of each record; false where there is no memory. */
-bool keep_part(sheet_parts *p, const uint8_t *bytes, size_t n, const unsigned long *lines);
+/* Keeps a copy of a full sheet; false where there is no memory. */
+bool keep_part(sheet_parts *p, const uint8_t *bytes, size_t n);
 void free_parts(sheet_parts *p);
-
-/* The line on which a name of the full sheets stands; 0 where they do not have it. */
-unsigned long line_in_parts(const sheet_parts *p, const uint8_t *name, size_t n);
 
 /* Asks the library for a state's answer, and counts it. */
 void count_state(sheet_parts *p, const row_state *s);

@@ -11,7 +11,7 @@ static bool is_plain(char delimiter, const char *text, size_t n) {
     for (size_t i = 0; i < sizeof special; i++)
         if ((special[i] != ',' || delimiter == ',') && memchr(text, special[i], n))
             return false;
-    return n == 0 || (!strchr(" #\xef\xfe\xff", text[0]) && text[n - 1] != ' ');
+    return n == 0 || (text[0] != ' ' && text[n - 1] != ' ' && text[0] != '#');
 }
 
 void write_field(FILE *out, char delimiter, const void *text, size_t n) {

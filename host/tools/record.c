@@ -115,10 +115,6 @@ unsigned record_at(const uint8_t *sheet, size_t start) {
     return i;
 }
 
-int compare_names(const uint8_t *a, const uint8_t *b) {
-    return a[0] != b[0] ? a[0] - b[0] : memcmp(a + 1, b + 1, a[0]);
-}
-
 eas_answer search_state(const uint8_t *sheet, size_t n, const state *s) {
     return eas_search(sheet, n, (const uint8_t *)s->spelled, s->spelled_length);
 }

@@ -61,9 +61,6 @@ state next_state(const uint8_t *sheet, size_t *at);
 /* Which record of an accepted sheet, from 0, has the name that starts at this place. */
 unsigned record_at(const uint8_t *sheet, size_t start);
 
-/* Orders two records by their length bytes and names. */
-int compare_names(const uint8_t *a, const uint8_t *b);
-
 /* The library's answer for a state's spelled name. */
 eas_answer search_state(const uint8_t *sheet, size_t n, const state *s);
 

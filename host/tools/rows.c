@@ -1,11 +1,12 @@
 #include "rows.h"
 
 #include <csv.h>
-#include <errno.h>
-#include <stdarg.h>
 #include <stdlib.h>
 #include <string.h>
 #include <strings.h>
+
+#include "common.h"
+#include "options.h"
 
 /* Where the reader stands in a field: before its first byte that is no blank, in it, in its quotes, behind them. */
 typedef enum { START, PLAIN, QUOTED, CLOSED } standing;
@@ -19,17 +20,6 @@ typedef struct {
     standing at;
     bool open, failed; /* open: a quoted field goes on over the line's end */
 } reading;
-
-/* Says why the text cannot be read. Gives false. */
-static bool fault(const reading *r, const char *format, ...) __attribute__((format(printf, 2, 3)));
-
-static bool fault(const reading *r, const char *format, ...) {
-    va_list values;
-    va_start(values, format);
-    vsnprintf(r->taker->fault, sizeof r->taker->fault, format, values);
-    va_end(values);
-    return false;
-}
 
 static bool enlarge(char **text, size_t *room, size_t wanted) {
     if (wanted <= *room)
@@ -113,14 +103,11 @@ static char named_delimiter(const char *line, size_t n) {
     return line[4];
 }
 
-/* The first sign outside quotes that can be one. */
 static char delimiter_of(const char *line, size_t n) {
-    bool quoted = false;
-    for (size_t i = 0; i < n; i++) {
-        quoted ^= line[i] == '"';
-        if (!quoted && line[i] && strchr(",;\t", line[i]))
-            return line[i];
-    }
+    static const char delimiters[] = {',', ';', '\t'};
+    for (size_t i = 0; i < sizeof delimiters; i++)
+        if (memchr(line, delimiters[i], n))
+            return delimiters[i];
     return ',';
 }
 
@@ -196,12 +183,12 @@ static bool parse_line(struct csv_parser *parser, reading *r, bool is_first) {
 }
 
 /* Feeds the parser line by line, so that every row is known by its line. */
-static bool parse(FILE *in, struct csv_parser *parser, reading *r) {
+static int parse(const char *name, FILE *in, struct csv_parser *parser, reading *r) {
     bool is_first = true;
     unsigned long line = 1;
     for (; read_line(in, r); line++) {
         if (line == 1 && r->line_length >= 2 && (!memcmp(r->line, "\xff\xfe", 2) || !memcmp(r->line, "\xfe\xff", 2)))
-            return fault(r, "the text is UTF-16; save it as UTF-8");
+            return refuse("%s: the text is UTF-16; save it as UTF-8", name);
         if (line == 1 && r->line_length >= 3 && !memcmp(r->line, "\xef\xbb\xbf", 3))
             memmove(r->line, r->line + 3, r->line_length -= 3);
         if (is_passed(r))
@@ -209,29 +196,30 @@ static bool parse(FILE *in, struct csv_parser *parser, reading *r) {
         if (!r->open)
             r->current.line = line;
         if (!parse_line(parser, r, is_first))
-            return fault(r, "line %lu: no CSV: %s", line, csv_strerror(csv_error(parser)));
+            return refuse("%s: line %lu: no CSV: %s", name, line, csv_strerror(csv_error(parser)));
         if (r->failed)
             break;
         is_first = false;
     }
     if (r->failed)
-        return fault(r, "line %lu: over %d fields or %d bytes, or no memory", line, FIELDS_MOST, ROW_MOST);
+        return refuse("%s: line %lu: over %d fields or %d bytes, or no memory", name, line, FIELDS_MOST, ROW_MOST);
     if (ferror(in))
-        return fault(r, "%s", strerror(errno));
-    return csv_fini(parser, take_field, take_row, r) == 0 ||
-           fault(r, "line %lu: a quoted field has no end", r->current.line);
+        return refuse_file(name);
+    if (csv_fini(parser, take_field, take_row, r))
+        return refuse("%s: line %lu: a quoted field has no end", name, r->current.line);
+    return DONE;
 }
 
-bool read_rows(FILE *in, row_taker *taker) {
+int read_rows(const char *name, FILE *in, row_taker *taker) {
     struct csv_parser parser;
     reading r = {.taker = taker};
     if (csv_init(&parser, CSV_STRICT | CSV_STRICT_FINI))
-        return fault(&r, "the CSV reader cannot be started");
+        return refuse("%s: the CSV reader cannot be started", name);
     csv_set_space_func(&parser, never);
     taker->delimiter = '\0';
-    bool whole = parse(in, &parser, &r);
+    int failed = parse(name, in, &parser, &r);
     csv_free(&parser);
     free(r.text);
     free(r.line);
-    return whole;
+    return failed;
 }

@@ -7,7 +7,7 @@
 #include <stddef.h>
 #include <stdio.h>
 
-enum { FIELDS_MOST = 1000, ROW_MOST = 1 << 20, ROW_FAULT_ROOM = 160 };
+enum { FIELDS_MOST = 1000, ROW_MOST = 1 << 20 };
 
 typedef struct {
     const char *text;
@@ -26,13 +26,11 @@ typedef struct {
     void *data;
     bool comments;  /* whether a line that begins with # is passed over; take may change it */
     char delimiter; /* known from the first row on */
-    char fault[ROW_FAULT_ROOM];
 } row_taker;
 
-/* Reads a text whose fields are parted by commas, semicolons or tabs, whichever its first row has first outside quotes;
- * a line such as "sep=;" in front of it says which. A byte-order mark, either line end, quoted fields and blank lines
- * are as usual; blanks around a field that is not quoted belong to it. False where the text is no CSV or cannot be
- * read, with the line and the reason in `fault`. */
-bool read_rows(FILE *in, row_taker *taker);
+/* Reads a text whose fields are parted by commas or, where its first row has none, by semicolons or tabs; a line such
+ * as "sep=;" in front of it says which. A byte-order mark, either line end, quoted fields and blank lines are as usual;
+ * blanks around a field that is not quoted belong to it. Tells a text that is no CSV; 0 is success. */
+int read_rows(const char *name, FILE *in, row_taker *taker);
 
 #endif

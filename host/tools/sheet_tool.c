@@ -56,8 +56,8 @@ static const tool description = {
     "  remark          up to 255 bytes that no answer depends on, or\n"
     "  remark_spelled  the same with %00 for a zero byte and the like; both may be left out\n"
     "A quantity may have another unit: 'Pressure [kPa]', 'p (bar)', density_g_cm3. Known are\n"
-    "mPa, Pa, hPa, kPa, MPa, GPa, mbar, bar, atm, Torr, psi, kg/m3, g/cm3, g/l, J/kg, kJ/kg\n"
-    "and MJ/kg. Numbers are read exactly. Wrong lines are told, and then pack writes nothing.",
+    "Pa, hPa, kPa, MPa, mbar, bar, atm, Torr, psi, kg/m3, g/cm3, g/l, J/kg, kJ/kg and MJ/kg.\n"
+    "Numbers are read exactly. Wrong lines are told, and then pack writes nothing.",
     options,
 };
 

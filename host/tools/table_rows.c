@@ -17,8 +17,10 @@ typedef struct {
     size_t count;
 } places;
 
+/* Length byte and name of two records; any order will do. */
 static int by_name(const void *a, const void *b) {
-    return compare_names(((const place *)a)->at, ((const place *)b)->at);
+    const uint8_t *x = ((const place *)a)->at, *y = ((const place *)b)->at;
+    return x[0] != y[0] ? x[0] - y[0] : memcmp(x + 1, y + 1, x[0]);
 }
 
 static void find_places(places *p, const uint8_t *sheet) {

@@ -4,60 +4,50 @@
 #include <string.h>
 #include <strings.h>
 
-enum { PRESSURE, ENERGY, DENSITY, HEADING_ROOM = 48, NEAR = 2 };
+enum { PRESSURE, ENERGY, DENSITY, UNIT_COUNT = 15, HEADING_ROOM = 48, NEAR = 2 };
 
-/* Of each SI unit it comes first itself. Pound-force, inch, atmosphere and torr by their definitions: psi is
- * 0.45359237·9.80665/0.0254² Pa, Torr 101325/760. */
-static const unit table[] = {
-    {"Pa", "Pa", 1, 1},
-    {"hPa", "Pa", 100, 1},
-    {"kPa", "Pa", 1000, 1},
-    {"MPa", "Pa", 1000000, 1},
-    {"GPa", "Pa", 1000000000, 1},
-    {"mPa", "Pa", 1, 1000},
-    {"mbar", "Pa", 100, 1},
-    {"bar", "Pa", 100000, 1},
-    {"atm", "Pa", 101325, 1},
-    {"Torr", "Pa", 20265, 152},
-    {"psi", "Pa", UINT64_C(8896443230521), 1290320000},
-    {"kg/m3", "kg/m³", 1, 1},
-    {"g/cm3", "kg/m³", 1000, 1},
-    {"g/l", "kg/m³", 1, 1},
-    {"J/kg", "J/kg", 1, 1},
-    {"kJ/kg", "J/kg", 1000, 1},
-    {"MJ/kg", "J/kg", 1000000, 1},
-    {"K", "K", 1, 1},
-    {"J/(kg K)", "J/(kg K)", 1, 1},
-    {"J/kg/K", "J/(kg K)", 1, 1},
-    {"kJ/(kg K)", "J/(kg K)", 1000, 1},
-    {"kJ/kg/K", "J/(kg K)", 1000, 1},
+/* Pound-force, inch, atmosphere and torr by their definitions: psi is 0.45359237·9.80665/0.0254² Pa, Torr 101325/760.
+ */
+static const struct {
+    const char *name;
+    int of;
+    uint64_t over, under;
+} table[UNIT_COUNT] = {
+    {"Pa", PRESSURE, 1, 1},
+    {"hPa", PRESSURE, 100, 1},
+    {"kPa", PRESSURE, 1000, 1},
+    {"MPa", PRESSURE, 1000000, 1},
+    {"mbar", PRESSURE, 100, 1},
+    {"bar", PRESSURE, 100000, 1},
+    {"atm", PRESSURE, 101325, 1},
+    {"Torr", PRESSURE, 20265, 152},
+    {"psi", PRESSURE, UINT64_C(8896443230521), 1290320000},
+    {"kg/m3", DENSITY, 1, 1},
+    {"g/cm3", DENSITY, 1000, 1},
+    {"g/l", DENSITY, 1, 1},
+    {"J/kg", ENERGY, 1, 1},
+    {"kJ/kg", ENERGY, 1000, 1},
+    {"MJ/kg", ENERGY, 1000000, 1},
 };
 
-enum { UNIT_COUNT = sizeof table / sizeof *table };
-
-/* How a text may call a quantity, by its place in `given`. */
+/* How a text may call a quantity. */
 static const struct {
     const char *word;
     int of;
 } words[] = {{"pressure", PRESSURE}, {"p", PRESSURE},    {"density", DENSITY}, {"rho", DENSITY},
              {"\xcf\x81", DENSITY},  {"energy", ENERGY}, {"e", ENERGY}};
 
-bool is_unit_of(const unit *u, const quantity *q) {
-    return !strcmp(u->si, q->unit);
+static const unit *unit_at(int i) {
+    static unit units[UNIT_COUNT];
+    units[i] = (unit){table[i].name, given[table[i].of], table[i].over, table[i].under};
+    return &units[i];
 }
 
 const unit *si_unit(const quantity *q) {
     int i = 0;
-    while (!is_unit_of(&table[i], q))
+    while (given[table[i].of] != q)
         i++;
-    return &table[i];
-}
-
-const unit *unit_named(field name) {
-    for (int i = 0; i < UNIT_COUNT; i++)
-        if (strlen(table[i].name) == name.length && !memcmp(table[i].name, name.text, name.length))
-            return &table[i];
-    return NULL;
+    return unit_at(i);
 }
 
 /* The quantity that a word of n bytes calls, as its place in `given`, or -1. */
@@ -98,13 +88,13 @@ static bool is_unit(const char *simple, const char *name) {
     return *simple == *name;
 }
 
-const unit *unit_called(field heading, int *of) {
+const unit *unit_called(field heading) {
     char simple[HEADING_ROOM];
     const char *rest = simplify(heading, simple) ? strchr(simple, '_') : NULL;
-    *of = rest ? called(simple, (size_t)(rest - simple)) : -1;
-    for (int i = 0; *of >= 0 && i < UNIT_COUNT; i++)
-        if (is_unit_of(&table[i], given[*of]) && is_unit(rest + 1, table[i].name))
-            return &table[i];
+    int of = rest ? called(simple, (size_t)(rest - simple)) : -1;
+    for (int i = 0; of >= 0 && i < UNIT_COUNT; i++)
+        if (table[i].of == of && is_unit(rest + 1, table[i].name))
+            return unit_at(i);
     return NULL;
 }
 
@@ -139,30 +129,21 @@ static void compare(const char *simple, const char *heading, int *near, char bes
     snprintf(best, HEADING_ROOM, "%s", heading);
 }
 
-/* The same with the headings of a quantity's units. */
-static void compare_units(const char *simple, const quantity *q, int *near, char best[HEADING_ROOM]) {
-    char proposed[HEADING_ROOM];
-    for (int i = 0; i < UNIT_COUNT; i++) {
-        if (!is_unit_of(&table[i], q))
-            continue;
-        snprintf(proposed, sizeof proposed, "%s_%s", q->name, table[i].name);
-        for (char *slash; (slash = strchr(proposed, '/'));)
-            *slash = '_';
-        compare(simple, proposed, near, best);
-    }
-}
-
 const char *nearest_heading(field heading, const char *const *others, int count) {
     static char best[HEADING_ROOM];
-    char simple[HEADING_ROOM];
+    char simple[HEADING_ROOM], proposed[HEADING_ROOM];
     int near = NEAR + 1;
     if (!simplify(heading, simple))
         return NULL;
     int of = called(simple, strcspn(simple, "_"));
     for (int i = 0; i < count; i++)
         compare(simple, others[i], &near, best);
-    for (int i = 0; i < GIVEN_COUNT; i++)
-        compare_units(simple, given[i], &near, best);
+    for (int i = 0; i < UNIT_COUNT; i++) {
+        snprintf(proposed, sizeof proposed, "%s_%s", given[table[i].of]->name, table[i].name);
+        for (char *slash = strchr(proposed, '/'); slash; slash = NULL)
+            *slash = '_';
+        compare(simple, proposed, &near, best);
+    }
     if (near > NEAR && of >= 0)
         snprintf(best, sizeof best, "%s", given[of]->heading);
     return near <= NEAR || of >= 0 ? best : NULL;

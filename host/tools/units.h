@@ -1,24 +1,20 @@
-/* The units in which a text may have a quantity, with their exact factors, and the headings that name them. */
+/* The units in which a text may give a quantity, with their exact factors, and the headings that name them. */
 #ifndef UNITS_H
 #define UNITS_H
 
 #include "kinds.h"
 #include "rows.h"
 
-/* One of it is over/under of its SI unit. */
+/* One of it is over/under of the quantity's SI unit. */
 typedef struct {
-    const char *name, *si;
+    const char *name;
+    const quantity *of;
     uint64_t over, under;
 } unit;
 
-bool is_unit_of(const unit *u, const quantity *q);
-
-/* The unit with this name, in its own case, since mPa and MPa differ; null where there is none. */
-const unit *unit_named(field name);
-
 /* The unit that a heading names beside its quantity: "pressure_kPa", "Pressure [kPa]", "p (bar)"; null where it names
- * none. The quantity's word may be in either case; its place in `given` goes to `of`. */
-const unit *unit_called(field heading, int *of);
+ * none. The quantity's word may be in either case, the unit's may not, since mPa and MPa differ. */
+const unit *unit_called(field heading);
 
 /* The SI unit of a quantity. */
 const unit *si_unit(const quantity *q);
