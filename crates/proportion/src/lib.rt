@@ -21,6 +21,7 @@ fn scaled_wide(w: i64, b: i64) -> i64
 }
 
 // W * B / 10^10. A B below 2^38, as nearly all are, takes one quotient: by 1,024 with shifts, then by 9,765,625.
+#[tactic(auto, using(quotient::proofs::Machine::tested, crate::proofs::Scaling::scaled_splits, crate::proofs::Scaling::scaled_divides))]
 pub fn scaled(w: i64, b: i64) -> i64
     requires { (nat_abs w ≤ reach) × (In 57 b) }
     ensures { result ≡ shr_z (w *ℤ b) units }

@@ -69,6 +69,7 @@ pub fn mul_wide(a: i64, b: i64) -> i64
 }
 
 // Any a, of which nearly all are below 2^38.
+#[tactic(auto, using(crate::proofs::Machine::tested))]
 pub fn mul(a: i64, b: i64) -> i64
     requires { (In 57 a) × (In 25 b) }
     ensures { result ≡ mul a b }

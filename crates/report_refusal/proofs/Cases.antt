@@ -2,38 +2,41 @@
 -- Assumes nothing.
 use mathlib.Core.Bool.{Bool, true, false, cond}
 use mathlib.Core.List.{List, [], ◌++◌}
-use mathlib.Core.Path.{◌≡◌, refl, sym, ap, ◌∙◌}
+use mathlib.Core.Path.{◌≡◌, refl, ap, ◌∙◌}
 use Prim.Native.Nat.{ℕ, ◌≤◌, ◌<◌}
 use native.Mathlib.Omega.{arith}
 use borrow.Author.Tests.{eq-eqb, ne_eqb, lt-ltb, le-ltb, leb-true}
-use lib.Dec.{ltb, leb}
+use lib.Dec.{eqb, ltb, leb}
 use lib.ListN.{length}
 use Rattle.line.specs.Line.{refusal_rest}
 use Rattle.octets.specs.declared.Outcome.TheVariants.{Done}
 use Rattle.octets.specs.Room.{text, refused, fitting, outcome_of}
 use Rattle.sheet.specs.Sheet.{sheet_of, number_of}
-use Rattle.report_refusal.specs.Refusal.{sheet_word, list_word, listing_for, refusal_of}
+use Rattle.report_refusal.specs.Refusal.{sheet_word, list_word, refusal_of}
 
 -- a listing by whether the sheet is accepted, and whether the list is too long
 abbrev pub either : ℕ → List ℕ → Bool → Bool → List ℕ
 either number lines accepted long = cond accepted (cond long (list_word ++ refusal_rest 15) lines) (sheet_word ++ refusal_rest number)
 
-module _ (sheet list : List ℕ) (number : ℕ) (e : number ≡ number_of (sheet_of sheet)) where
-  by_number : refusal_of sheet list ≡ listing_for number list []
+module _ (sheet list : List ℕ) where
+  abbrev number : ℕ
+  number = number_of (sheet_of sheet)
+
+  by_test : (accepted : Bool) → eqb number 0 ≡ accepted → refusal_of sheet list ≡ either number [] accepted (ltb 65536 (length list))
   unfolding refusal_of
-  by_number = ap (λ (n : ℕ). listing_for n list []) (sym e)
+  by_test accepted e = ap (λ (b : Bool). either number [] b (ltb 65536 (length list))) e
 
-  pub refused_sheet : (number ≡ 0 → ⊥) → refusal_of sheet list ≡ sheet_word ++ refusal_rest number
-  refused_sheet h = by_number ∙ ap (λ (b : Bool). either number [] b (ltb 65536 (length list))) (ne_eqb number 0 h)
+  pub refused_sheet : (number_of (sheet_of sheet) ≡ 0 → ⊥) → refusal_of sheet list ≡ sheet_word ++ refusal_rest (number_of (sheet_of sheet))
+  refused_sheet h = by_test false (ne_eqb number 0 h)
 
-  accepted : number ≡ 0 → refusal_of sheet list ≡ either number [] true (ltb 65536 (length list))
-  accepted h = by_number ∙ ap (λ (b : Bool). either number [] b (ltb 65536 (length list))) (eq-eqb number 0 h)
+  pub refused_list : number_of (sheet_of sheet) ≡ 0 → 65536 < length list → refusal_of sheet list ≡ list_word ++ refusal_rest 15
+  refused_list h k = by_test true (eq-eqb number 0 h) ∙ ap (either number [] true) (lt-ltb 65536 (length list) k)
 
-  pub refused_list : number ≡ 0 → 65536 < length list → refusal_of sheet list ≡ list_word ++ refusal_rest 15
-  refused_list h k = accepted h ∙ ap (either number [] true) (lt-ltb 65536 (length list) k)
+  pub not_refused : number_of (sheet_of sheet) ≡ 0 → length list ≤ 65536 → refusal_of sheet list ≡ []
+  not_refused h k = by_test true (eq-eqb number 0 h) ∙ ap (either number [] true) (le-ltb 65536 (length list) k)
 
-  pub not_refused : number ≡ 0 → length list ≤ 65536 → refusal_of sheet list ≡ []
-  not_refused h k = accepted h ∙ ap (either number [] true) (le-ltb 65536 (length list) k)
+-- these decide what `begin` writes
+pub ruleset cases = (refused_sheet, refused_list, not_refused)
 
 -- a text of which n bytes were written fits the room
 pub done_fits : (t : List ℕ) (room n : ℕ) → Done n ≡ outcome_of (fitting room t) → (n ≡ length t) × (length t ≤ room) × (fitting room t ≡ text t)

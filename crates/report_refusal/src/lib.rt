@@ -10,6 +10,7 @@ use octets::Outcome;
 
 // Begins a listing: indexes the sheet, and writes the line of a refused sheet or list to lent room, for which 71 bytes are enough.
 // Where it writes nothing, the lines follow in parts.
+#[tactic(auto, using(crate::proofs::Cases::cases))]
 pub fn begin(
     sheet: &[u8],
     starts: &mut [u16; 3449],
