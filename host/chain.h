@@ -1,5 +1,5 @@
-/* Names that fall into one chain of the library's index of names (hashOf, crates/sheet_name/specs/Name.antt), as nobody
- * has them but who chose them for it. */
+/* Names that fall into one chain of the library's index of names (hash_of, crates/sheet_name/specs/Name.antt), as
+ * nobody has them but who chose them for it. */
 #ifndef HOST_CHAIN_H
 #define HOST_CHAIN_H
 

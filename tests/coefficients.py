@@ -30,11 +30,11 @@ TABLES = {
 
 # how many parts of a unit of 10^-10 a listing's numerals are whole numbers of, in the words of its rule (fit/specs/Exact: `Printed`), and
 # where the rule says it; the entropy's has no word for it. Only numerals in hundredths are rounded.
-PRINTED = {"inUnits": 1, "inHundredths": 100}
+PRINTED = {"in_units": 1, "in_hundredths": 100}
 LISTINGS = {
-    "temperature": ("inUnits", ("air_temperature", "specs/Temperature.antt")),
-    "entropy": ("inUnits", None),
-    "pressure": ("inUnits", ("air_pressure", "specs/Pressure.antt")),
+    "temperature": ("in_units", ("air_temperature", "specs/Temperature.antt")),
+    "entropy": ("in_units", None),
+    "pressure": ("in_units", ("air_pressure", "specs/Pressure.antt")),
 }
 
 # the listing's labels, in the order of a band's pieces
@@ -42,7 +42,7 @@ TEMPERATURE = {"low": (310, 320, 330, 340), "middle": (360, 370, 380, 390), "hig
 ENTROPY = {"low": 80, "middle": 90, "high": 100}
 PRESSURE = {"low": (90, 100, 110, 120, 130, 140), "middle": (150, 160, 170, 180, 190), "high": (200, 210, 220, 230)}
 FIRST, SECOND, TERMS = ("GAS1", "GAS2", "GAS3", "GAS4"), ("GAS5", "GAS6", "GAS7", "GAS8"), ("GAS9",)
-PARTS = (("A", FIRST), ("B", SECOND), ("q", TERMS))
+PARTS = (("a", FIRST), ("b", SECOND), ("q", TERMS))
 
 # each listing's packed bytes: one for each number, and four or eight; the one gamma of each band's first piece is in no block
 SIZES = {"temperature low": 614, "temperature middle": 634, "temperature high": 406}
@@ -87,9 +87,9 @@ def code_lists(kind):
     source = CRATES / TABLES[kind][0] / "src"
     text, arrays = (source / "lib.rt").read_text(), blocks.arrays(source / "blocks.rt")
     lists, lent = {}, []
-    function = r"^fn .*\n    requires .*\n    ensures \{ λ r\. ⌜ r ≡ (.*) ⌝ \}\n\{\n((?: .*\n)*)\}"
+    function = r"^fn .*\n    requires .*\n    ensures \{ result ≡ (.*) \}\n\{\n((?: .*\n)*)\}"
     for ensured, body in re.findall(function, text, re.M):
-        names, lends = re.findall(r"\w+-[ABqn]\b", ensured), re.findall(r"&blocks::(\w+)", body)
+        names, lends = re.findall(r"\w+_[abqn]\b", ensured), re.findall(r"&blocks::(\w+)", body)
         for name, places, words in zip(names, lends[::2], lends[1::2], strict=True):
             same(f"{source}: the block of {name}", (name in lists, arrays[places][0], arrays[words][0]), (False, "u8", "i32"))
             lists[name] = blocks.numbers(arrays[places][1], arrays[words][1])
@@ -134,12 +134,12 @@ def wanted(temperature, entropy, pressure):
             table = f"{kind} {band}"
             for index, label in enumerate(labels, 1):
                 if (label, "GAMMA") in rows:
-                    lists[table, f"{band}{index}-A"] = rows.pop((label, "GAMMA"))
+                    lists[table, f"{band}{index}_a"] = rows.pop((label, "GAMMA"))
                 for part, names in PARTS:
                     if (label, names[0]) in rows:
-                        lists[table, f"{band}{index}-{part}"] = [n for name in names for n in rows.pop((label, name))]
+                        lists[table, f"{band}{index}_{part}"] = [n for name in names for n in rows.pop((label, name))]
     for band, label in ENTROPY.items():
-        lists["entropy", f"{band}-n"] = [n for name in FIRST for n in entropy.pop((label, name))]
+        lists["entropy", f"{band}_n"] = [n for name in FIRST for n in entropy.pop((label, name))]
     return lists
 
 
@@ -154,7 +154,7 @@ def ends(temperature, entropy):
     code = (CRATES / "bands" / "src" / "lib.rt").read_text()
     for band, labels in TEMPERATURE.items():
         want = [pack.millionths(n) for label in labels[:-1] for n in temperature[label, "END"]]
-        line = re.search(rf"^temperatureEnds {band.title()} = (.*)$", spec, re.M).group(1)
+        line = re.search(rf"^temperature_ends {band.title()} = (.*)$", spec, re.M).group(1)
         same(f"specs, ends of {band}", [int(n) for n in re.findall(r"pos (\d+)", line)], want)
         call = re.search(rf"Band::{band.title()} => \w+\(z, ([^)]*)\)", code).group(1)
         same(f"src, ends of {band}", [int(n) for n in call.split(",")], want)
@@ -163,7 +163,7 @@ def ends(temperature, entropy):
     code = (CRATES / crate / "src" / "lib.rt").read_text()
     for band, label in ENTROPY.items():
         want = pack.millionths(entropy.pop((label, "LIMIT"))[0])
-        same(f"specs, limit of {band}", int(re.search(rf"^entropyLimit {band.title()} = pos (\d+)$", spec, re.M).group(1)), want)
+        same(f"specs, limit of {band}", int(re.search(rf"^entropy_limit {band.title()} = pos (\d+)$", spec, re.M).group(1)), want)
         same(f"src, limit of {band}", int(re.search(rf"Band::{band.title()} => (\d+),", code).group(1)), want)
 
 
@@ -180,8 +180,8 @@ def found(pattern, text):
 
 def piece(name, joined, sign, kept):
     """how the definitions write a piece"""
-    by = "minusBy" if sign == ["-"] else f"keptBy {kept[0]}" if kept else "plusBy"
-    return f"joint {name}-A {name}-B ({by} {name}-q)" if joined else f"alone {name}-A"
+    by = "minus_by" if sign == ["-"] else f"kept_by {kept[0]}" if kept else "plus_by"
+    return f"joint {name}_a {name}_b ({by} {name}_q)" if joined else f"alone {name}_a"
 
 
 def call(name, joined, sign, kept):
@@ -193,21 +193,21 @@ def call(name, joined, sign, kept):
 def band_pieces(crate, names, parts, constants):
     """the pieces in order, with their transitions, so many constants first; how far from 0 the definition keeps an exponent"""
     band = names[0][:-1]
-    table = found(rf"^{band}Pieces =\n((?:    .*\n)+)", source(crate, "specs/Pieces.antt"))
+    table = found(rf"^{band}_pieces =\n((?:    .*\n)+)", source(crate, "specs/Pieces.antt"))
     same(f"{crate}, specs: the pieces", re.findall(r"^    (?:∷ )?(.*)$", table, re.M), [*map(piece, names, *zip(*parts)), "[]"])
     function = r"^fn (\w+)\(y: i64, z: i64\) -> Edge\n.*\n.*\n\{\n    fit::(\w+)\(([^)]*)\)\n\}"
     calls = re.findall(function, source(crate, "src/lib.rt"), re.M)
     have = [(name, callee, [a for a in re.split(r"[\s,]+", given) if a and a[0] != "&"]) for name, callee, given in calls]
     same(f"{crate}, src: the pieces", have, [*map(call, names, *zip(*parts))][constants:])
     for most in (kept[0] for _, _, kept in parts if kept):
-        bound = found(r"^limitOf Kept = some (\d+)$", source("fit", "specs/Edge.antt"))
+        bound = found(r"^limit_of Kept = some (\d+)$", source("fit", "specs/Edge.antt"))
         same("fit, specs: how far an exponent is kept", int(bound), most)
 
 
 def band_ends(crate, function, names, ends, constants):
     """the ends in definitions and code; gives the constants that the code has first"""
     band = names[0][:-1]
-    line = found(rf"^{band}Ends = (.*) ∷ \[\]$", source(crate, "specs/Pieces.antt"))
+    line = found(rf"^{band}_ends = (.*) ∷ \[\]$", source(crate, "specs/Pieces.antt"))
     same(f"{crate}, specs: the ends", line, " ∷ ".join(f"pos {n}" for n in ends))
     body = found(rf"^pub fn {function}\(.*\n(?:    .*\n)*\{{\n((?:    .*\n)*)\}}", source(crate, "src/lib.rt"))
     arm = r"    if z <= (\d+) \{\n        return (?:Edge \{\s*fit: (\d+),\s*weight: 0,\s*\}|(\w+\(y, z\)));\n    \}\n"
@@ -222,8 +222,8 @@ def band(kind, function, name, labels, rows, lists):
     crate = TABLES[f"{kind} {name}"][0]
     names = [f"{name}{index}" for index in range(1, len(labels) + 1)]
     signs, kept = ([rows.pop((label, part), []) for label in labels] for part in ("SIGN", "KEPT"))
-    constants = sum(len(lists[f"{kind} {name}", f"{piece}-A"]) == 1 for piece in names)
-    band_pieces(crate, names, [*zip([(f"{kind} {name}", f"{piece}-B") in lists for piece in names], signs, kept)], constants)
+    constants = sum(len(lists[f"{kind} {name}", f"{piece}_a"]) == 1 for piece in names)
+    band_pieces(crate, names, [*zip([(f"{kind} {name}", f"{piece}_b") in lists for piece in names], signs, kept)], constants)
     ends = [pack.millionths(n) for label in labels[:-1] for n in rows.pop((label, "END"))]
     return band_ends(crate, function, names, ends, constants)
 
@@ -232,10 +232,10 @@ def gamma(pressure, lists):
     """the gamma crates; gives the constants of their code as lists"""
     constants = {}
     for name, labels in PRESSURE.items():
-        constants[f"pressure {name}"] = {f"{name}1-A": band("pressure", "gamma", name, labels, pressure, lists)}
+        constants[f"pressure {name}"] = {f"{name}1_a": band("pressure", "gamma", name, labels, pressure, lists)}
         (limit,) = pressure.pop((labels[-1], "LIMIT"))
         crate, most = TABLES[f"pressure {name}"][0], str(pack.millionths(limit))
-        same(f"{crate}, specs: the limit", found(rf"^{name}Limit = pos (\d+)$", source(crate, "specs/Pieces.antt")), most)
+        same(f"{crate}, specs: the limit", found(rf"^{name}_limit = pos (\d+)$", source(crate, "specs/Pieces.antt")), most)
         warns = found(rf"Band::{name.title()} => (\d+) < z,$", source("tgas1_gamma", "src/lib.rt"))
         same(f"tgas1_gamma, src: the limit of {name}", warns, most)
     return constants
@@ -255,7 +255,7 @@ def rounding():
             same(f"numerals in parts of {parts}", {numeral: units_or_none(numeral, parts) for numeral in want}, want)
     for word, rule in LISTINGS.values():
         if rule:
-            same(f"{rule[0]}: how numbers are printed", found(r"^ *pieceAt = λ y z\. (in\w+) \(", source(*rule)), word)
+            same(f"{rule[0]}: how numbers are printed", found(r"^ *piece_at = λ y z\. (in_\w+) \(", source(*rule)), word)
 
 
 def main():

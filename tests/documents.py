@@ -43,7 +43,7 @@ def lost_theorems():
     table = (ROOT / "docs" / "SPECIFICATION.md").read_text().split("## Promises", 1)[1].split("###", 1)[0]
     held = (ROOT / "tests" / "promises.txt").read_text()
     for row in re.findall(r"^\|(.*)\|$", table, re.MULTILINE):
-        for theorem in re.findall(r"`([a-z0-9-]+)`", row.split("|")[1]):
+        for theorem in re.findall(r"`([a-z0-9_-]+)`", row.split("|")[1]):
             if not re.search(rf"(?:antt|⊢) {re.escape(theorem)} :", held):
                 yield f"SPECIFICATION.md: {theorem} is not in tests/promises.txt"
 

@@ -22,7 +22,7 @@ says that first: weigh/quotient_to_thousands is refused because `portion_of` has
 def crates():
     """all crates, in the order of crates.txt"""
     lines = (ROOT / "crates.txt").read_text().splitlines()
-    return [line.split(":", 1)[0] for line in lines if ":" in line and not line.startswith("#")]
+    return [line.split(":", 1)[0].split()[0] for line in lines if ":" in line and not line.startswith("#")]
 
 
 def told(path):

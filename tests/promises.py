@@ -38,7 +38,7 @@ def promises():
 def crates():
     """all crates, in the order of crates.txt"""
     lines = (ROOT / "crates.txt").read_text().splitlines()
-    return [line.split(":", 1)[0] for line in lines if ":" in line and not line.startswith("#")]
+    return [line.split(":", 1)[0].split()[0] for line in lines if ":" in line and not line.startswith("#")]
 
 
 @cache
@@ -71,6 +71,8 @@ def starts(project):
             faults.append(f"{path}: no theorem with the statement {promise}")
     for path in paths("*/src/**/*.rt"):
         found += [(path, made) for made in project.file(path).definitions if made.kind == "entry"]
+    if {path for path, made in found if made.kind == "entry"} != {"airstate/src/lib.rt", "listing/src/main.rt"}:
+        faults.append("the entries are not those of C and the listing program's `run`")
     return found, faults
 
 

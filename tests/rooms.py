@@ -10,7 +10,6 @@ from xml.sax.saxutils import escape
 
 ROOT = Path(__file__).resolve().parent.parent
 PAGE, PICTURE = ROOT / "crates" / "README.md", ROOT / "docs" / "crates.svg"
-KIT = {"io", "libc", "os", "check", "bytes"}
 WIDTH, LINE, PAD, GAP, ROW, CHARACTERS = 300, 17, 12, 60, 46, 42
 HEAD = """# The crates
 
@@ -31,8 +30,8 @@ def read():
         if heading := re.fullmatch(r"# ([^:]+): (.+)", line):
             rooms.append((heading[1], heading[2], []))
         elif ":" in line and not line.startswith("#"):
-            name, names = line.split(":", 1)
-            uses[name] = [n for n in names.split() if n not in KIT]
+            (name, *_), names = (part.split() for part in line.split(":", 1))  # a static library has that word behind its name
+            uses[name] = names
             if below := [n for n in uses[name] if n not in list(uses)[:-1]]:
                 sys.exit(f"{name} names {below[0]}, which is not above it in crates.txt")
             rooms[-1][2].append(name)

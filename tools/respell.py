@@ -3,7 +3,7 @@
 
 usage: python3 tools/respell.py [--list] [TOP]
 
-Run once at the top of a tree that /opt/rattle/port/port.py has just turned. A name that specs/ or proofs/ declares gets snake case: a capital
+Run once at the top of a tree that the kit's port.py has just turned. A name that specs/ or proofs/ declares gets snake case: a capital
 inside a word becomes `_` and its small letter, a dash between words becomes `_`. A dash beside a symbol stays, as in `abs-*`, and so does a
 name that begins with a capital. Names of goals, which Rattle makes, are left. The names are turned in .antt, .rt and .edit files below crates/
 and, between backticks, in the pages and lists that name them. --list prints the names instead.

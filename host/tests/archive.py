@@ -1,10 +1,10 @@
 """archive.py [--plain] LIBRARY: where the coefficients stand in the built library, an archive of one object for x86-64.
 
-The code copies packed blocks to the stack, from constants of read-only data and from immediates of instructions, and lends them
-to a call. Every path through the code is followed with the origin of each known byte: all blocks of a piece must stand on the
-stack at one call. Their origins, and whatever else has words of them, may take no more bytes than the packed numbers, no
-coefficient may stand unpacked, and all read-only data together is bounded too. --plain counts the bytes that hold unpacked
-coefficients instead and judges nothing."""
+The code lends packed blocks to a call: constants of read-only data by their addresses, or copies on the stack, of such constants
+and of immediates of instructions. Every path through the code is followed with the origin of each known byte and with each address
+of a constant: all blocks of a piece must be lent at one call. Their origins, and whatever else has words of them, may take no more
+bytes than the packed numbers, no coefficient may stand unpacked, and all read-only data together is bounded too. --plain counts the
+bytes that hold unpacked coefficients instead and judges nothing."""
 
 import re
 import struct
@@ -22,7 +22,7 @@ BANDS = [f"tgas1_{what}_{band}" for what in ("temperature", "gamma") for band in
 FILES = [ROOT / "crates" / crate / "src" / "blocks.rt" for crate in ("tgas2_entropy", *BANDS)]
 MOST = 1888 + 1899  # a byte for each number, and four or eight: of temperature and entropy, and of pressure
 # all read-only data, coefficients or not, as it is now: whoever adds some raises this number, here and in docs/BENCHMARKS.md
-MOST_READ_ONLY = 4708
+MOST_READ_ONLY = 5845
 # coefficients that other code has too: the weight's unit and its scale; gamma's upper bound, which a comparison takes away
 SHARED = {10**10, 18 * 10**10, -2 * 10**10}
 DISTINCT = 2**16  # a word nearer to zero is no sign of a coefficient
@@ -154,7 +154,16 @@ def relocations(elf, header, headers):
 
 
 # Cells are what is known at an instruction: for a byte of a register or of memory, by place and index, its value and its origin,
-# which is an extent and the index in it, or None where the machine fills up with zeros. 'depth' is where the stack pointer is.
+# which is an extent and the index in it, or None where the machine fills up with zeros. A byte of the address of a constant has for
+# its value an Address, and no origin. 'depth' is where the stack pointer is.
+
+
+class Address(NamedTuple):
+    """one byte of where a constant stands"""
+
+    section: int
+    offset: int
+    byte: int
 
 
 def place(cells, operand):
@@ -199,7 +208,9 @@ def forget(cells, *registers):
 
 def step(library, cells, one):
     name, operands = one.name, one.operands
-    if name in MOVES and len(operands) == 2:
+    if name == "leaq" and one.target and operands[0].endswith("(%rip)") and not library.sections[one.target[0]].runs:
+        write(cells, operands[1], [(Address(*one.target, i), None) for i in range(8)])
+    elif name in MOVES and len(operands) == 2:
         found, into = read(library, cells, one, MOVES[name]), operands[1]
         if into.startswith("%xmm") and name != "movlps" and not (operands[0] in WHOLE and name in ("movss", "movsd")):
             found += [(0, None)] * (16 - len(found))
@@ -207,8 +218,10 @@ def step(library, cells, one):
             found += [(0, None)] * 4
         write(cells, into, found)
     elif name in ("pushq", "popq") or (operands and operands[-1] == "%rsp"):
-        by = int(operands[0][1:], 16) if operands[0][0] == "$" else 8
+        by = int(operands[0][1:], 16) if operands[0][0] == "$" and name not in ("pushq", "popq") else 8
+        pushed = read(library, cells, one, 8) if name == "pushq" else []
         cells["depth"] += {"addq": by, "popq": by, "subq": -by, "pushq": -by}.get(name, 0)
+        write(cells, "(%rsp)", pushed)
         if name == "popq":
             write(cells, operands[0], [])
     elif name == "rep":
@@ -222,7 +235,7 @@ def step(library, cells, one):
 
 
 def follow(library, section, start):
-    """what is known of memory at each call, on every path from there"""
+    """what is known of memory and of addresses at each call, on every path from there"""
     code, paths, seen, calls = library.code[section], [(start, {"depth": 0})], set(), set()
     joins = {to for one in code.values() for to in library.leads(one) or []}
     while paths:
@@ -235,7 +248,7 @@ def follow(library, section, start):
             sys.exit(f"{library.sections[section].name}: too many paths")
         while one := code.get(at):
             if one.name.startswith("call") or one.name in ("jmp", "jmpq") and one.target:
-                calls.add(frozenset((key, cell) for key, cell in cells.items() if key[0][0] == "("))
+                calls.add(frozenset((k, c) for k, c in cells.items() if k != "depth" and (k[0][0] == "(" or isinstance(c[0], Address))))
                 forget(cells, *(register for register in set(WHOLE.values()) - KEPT))
             step(library, cells, one)
             at, leads = one.next, library.leads(one)
@@ -262,6 +275,20 @@ def constants():
     return [int(number) for text in sources for number in re.findall(r"\bfit: (\d+),", text)]
 
 
+def reached(library, cells):
+    """the memory that a call can be handed: what is known of it, and each constant whose address stands in it or in a register, by
+    that address"""
+    memory = {key: cell for key, cell in cells if not isinstance(cell[0], Address)}
+    whole = {(*key, cell[0].byte): cell[0][:2] for key, cell in cells if isinstance(cell[0], Address)}
+    for (where, at, byte), (section, offset) in whole.items():
+        if byte == 0 and all(whole.get((where, at + i, i)) == (section, offset) for i in range(8)):
+            data = library.sections[section].data
+            extent = library.extent(section, offset, len(data) - offset)
+            for i in range(offset, extent.start + extent.length):
+                memory[section, i] = data[i], (extent, i - extent.start)
+    return memory
+
+
 def standing(memory, array):
     """the keys of the array's bytes, wherever it stands in memory"""
     for (where, at), (first, _) in memory.items():
@@ -271,12 +298,13 @@ def standing(memory, array):
 
 
 def lent(memory, parts):
-    """those of a piece's arrays that stand in memory, each at its own place: their cells, and the known ones with the fill"""
+    """those of a piece's arrays that stand in memory, each at its own place on the stack, where equal constants may be one: their cells,
+    and the known ones with the fill"""
     found, taken = {}, set()
     for name, (array, fill) in sorted(parts.items(), key=lambda part: -len(part[1][0])):
         keys = next((keys for keys in standing(memory, array) if taken.isdisjoint(keys)), None)
         if keys:
-            taken.update(keys)
+            taken.update(key for key in keys if not isinstance(key[0], int))
             filled = [(keys[0][0], keys[-1][1] + 1 + i) for i in range(fill)]
             found[name] = [memory[key] for key in keys], [memory[key] for key in keys + filled if key in memory]
     return found
@@ -288,7 +316,7 @@ class Account:
 
     def __init__(self, library):
         self.extents, self.exact, self.lenders, self.missing = set(), set(), set(), set()
-        calls = [(s, dict(call)) for s, starts in library.starts.items() for at in starts for call in follow(library, s, at)]
+        calls = [(s, reached(library, call)) for s, starts in library.starts.items() for at in starts for call in follow(library, s, at)]
         for parts in pieces().values():
             absent = set(parts)
             for section, memory in calls:

@@ -35,7 +35,7 @@ def number(numeral):
 
 def before(count):
     """the start of a function's proof, so many steps back"""
-    return "c" + " .before" * count
+    return "c" + ".before" * count
 
 
 @dataclass
@@ -56,27 +56,27 @@ class Piece:
         return {part: names for part, names in GROUPS.items() if names[0] in self.rows}
 
     def by(self):
-        return "minusBy" if "SIGN" in self.rows else f"keptBy {pack.units(self.rows['KEPT'][0])}" if "KEPT" in self.rows else "plusBy"
+        return "minus_by" if "SIGN" in self.rows else f"kept_by {pack.units(self.rows['KEPT'][0])}" if "KEPT" in self.rows else "plus_by"
 
     def variant(self):
-        return {"minusBy": "Minus", "plusBy": "Plus"}.get(self.by(), "Kept")
+        return {"minus_by": "Minus", "plus_by": "Plus"}.get(self.by(), "Kept")
 
     def form(self):
         """how definitions write the piece"""
         n = self.name
-        return f"joint {n}-A {n}-B ({self.by()} {n}-q)" if "B" in self.parts() else f"alone {n}-A"
+        return f"joint {n}_a {n}_b ({self.by()} {n}_q)" if "B" in self.parts() else f"alone {n}_a"
 
     def definitions(self, place):
         """its lists; place says where the piece stands"""
         if self.constant():
-            return f"-- label {self.label}: {place}, the one gamma\nabbrev pub {self.name}-A : List ℤ\n{self.name}-A = {number(self.constant())} ∷ []\n"
+            return f"-- label {self.label}: {place}, the one gamma\nabbrev pub {self.name}_a : List ℤ\n{self.name}_a = {number(self.constant())} ∷ []\n"
         text = []
         for part, names in self.parts().items():
             title = f": {place}, A" if part == "A" else ", B" if part == "B" else ", exponent"
             note = f"; {self.notes[part]}" if part in self.notes else ""
             lines = [" ∷ ".join(map(number, self.rows[name])) + f"  -- {name}" for name in names]
             text.append(
-                f"-- label {self.label}{title}{note}\nabbrev pub {self.name}-{part} : List ℤ\n{self.name}-{part} =\n    "
+                f"-- label {self.label}{title}{note}\nabbrev pub {self.name}_{part.lower()} : List ℤ\n{self.name}_{part.lower()} =\n    "
                 + "\n    ∷ ".join([*lines, "[]"])
                 + "\n"
             )
@@ -85,8 +85,8 @@ class Piece:
     def code(self):
         """the function that lends its blocks"""
         head = (
-            f"// Label {self.label}.\nfn {self.name}(y: i64, z: i64) -> Edge\n    requires {{ ⌜ Workable ({self.form()}) y z ⌝ }}\n"
-            f"    ensures {{ λ r. ⌜ r ≡ edgeWith weightBy ({self.form()}) y z ⌝ }}\n"
+            f"// Label {self.label}.\nfn {self.name}(y: i64, z: i64) -> Edge\n    requires {{ Workable ({self.form()}) y z }}\n"
+            f"    ensures {{ result ≡ edge_with weight_by ({self.form()}) y z }}\n"
         )
         name = self.name.upper()
         if "B" not in self.parts():
@@ -103,32 +103,28 @@ class Piece:
 
     def proof(self, crate):
         """its function lends the listing's numbers"""
-        calls = "joint-at" if "B" in self.parts() else "alone-at"
+        calls = "joint_at" if "B" in self.parts() else "alone_at"
         steps = 2 * len(self.parts())
         block = "block refl tt tt refl refl"
         if steps == 6:
-            taken = f" in (\n      {block},\n      ({block}, ({block}, rw (back (s .fits .y), back (s .fits .z)) (s .pre))),\n    )"
+            taken = f" in (\n      {block},\n      ({block}, ({block}, rw (back s.ranges.y, back s.ranges.z) s.requires)),\n    )"
         else:
-            taken = f" in\n    ({block}, rw (back (s .fits .y), back (s .fits .z)) (s .pre))"
+            taken = f" in\n    ({block}, rw (back s.ranges.y, back s.ranges.z) s.requires)"
         return f"""-- `{crate}::{self.name}` lends the listing's numbers: read back, they are its lists.
 use mathlib.Core.Path.{{refl}}
-use Rattle·integer.proofs.Machine.{{back}}
-use Rattle·packed.specs.Packed.{{unpacked, bytesFrom, wordsOf}}
-use Rattle·packed.proofs.Blocks.{{block}}
-use Rattle·{crate}·proofs.proofs.{self.name}.Statement.{{statement}}
-use Rattle·{crate}·proofs.proofs.{self.name}.Tie as tie
+use Rattle.integer.proofs.Machine.{{back}}
+use Rattle.packed.specs.Packed.{{unpacked, bytes_from, words_of}}
+use Rattle.packed.proofs.Blocks.{{block}}
+use Rattle.{crate}.proofs.{self.name}.Goals as goal
 
-{calls}-requires : tie.Need-{calls}-requires
-unfolding unpacked bytesFrom wordsOf
-{calls}-requires c κs =
+pub {calls}-requires : goal.{calls}-requires
+unfolding unpacked bytes_from words_of
+{calls}-requires c =
     let s = {before(steps)}{taken}
 
-returns : tie.Need-returns
+pub returns : goal.returns
 unfolding unpacked
-returns c = let s = {before(steps + 1)} in rw (back (s .fits .y), back (s .fits .z)) at (c .{calls} .ensures)
-
-pub {self.name}-spec : {{M : Type 1}} → statement M
-{self.name}-spec = tie.close (tie.spec {calls}-requires returns)
+returns c = let s = {before(steps + 1)} in rw (back s.ranges.y, back s.ranges.z) at c.{calls}.ensures
 """
 
 
@@ -147,7 +143,7 @@ class Band:
 
     def makers(self, pieces):
         forms = " ".join(piece.form().replace("(", "") for piece in pieces).split()
-        return ", ".join(maker for maker in ("alone", "joint", "plusBy", "minusBy", "keptBy") if maker in forms)
+        return ", ".join(maker for maker in ("alone", "joint", "plus_by", "minus_by", "kept_by") if maker in forms)
 
     def ends(self):
         return [piece.end() for piece in self.pieces[:-1]]
@@ -161,31 +157,29 @@ class Band:
         warning = ""
         if limit:
             warning = f"""-- label {last.label}: a Z above this gets the listing's warning
-abbrev pub {band}Limit : ℤ
-{band}Limit = pos {pack.millionths(pack.units(last.rows["LIMIT"][0]))}
+abbrev pub {band}_limit : ℤ
+{band}_limit = pos {pack.millionths(pack.units(last.rows["LIMIT"][0]))}
 
 """
         return f"""-- {self.what}'s pieces in the {band} band, {self.routine} of source document 000, labels {first.label} to {last.label}: {tells}.
 -- A coefficient is written in units of 10^-10, with _ where the listing has its point.
-use mathlib.Core.List.{{List, [], _∷_}}
-use lib.IntN.{{ℤ, pos}}
-use lib.ListN.{{getD}}
-use Rattle·fit.specs.Fit.{{Piece, {self.makers(self.pieces)}}}
-use Rattle·bands.specs.Units.{{p, m, indexIn}}
+use Rattle.std.specs.Prelude.{{List, [], ◌∷◌, ℤ, pos, get_or}}
+use Rattle.fit.specs.Fit.{{Piece, {self.makers(self.pieces)}}}
+use Rattle.bands.specs.Units.{{p, m, index_in}}
 
 {lists}
 -- where the band's pieces end, upper end included; what lies above the last end is one more piece
-abbrev pub {band}Ends : List ℤ
-{band}Ends = {" ∷ ".join(f"pos {end}" for end in self.ends())} ∷ []
+abbrev pub {band}_ends : List ℤ
+{band}_ends = {" ∷ ".join(f"pos {end}" for end in self.ends())} ∷ []
 
 {warning}-- the band's pieces, in order{"; the first has one gamma" if first.constant() else ""}. Shut, so that no goal prints the table
-unfoldable pub {band}Pieces : List Piece
-{band}Pieces =
+unfoldable pub {band}_pieces : List Piece
+{band}_pieces =
     {table}
 
 -- the piece that Z chooses
-abbrev pub {band}Piece : ℤ → Piece
-{band}Piece z = getD {band}Pieces (indexIn {band}Ends z) (alone [])
+abbrev pub {band}_piece : ℤ → Piece
+{band}_piece z = get_or {band}_pieces (index_in {band}_ends z) (alone [])
 """
 
     def arm(self, piece):
@@ -194,23 +188,25 @@ abbrev pub {band}Piece : ℤ → Piece
         return f"Edge {{\n            fit: {pack.units(piece.constant())},\n            weight: 0,\n        }}"
 
     def code(self):
-        lists = [f"{piece.name}-{part}" for piece in self.lent() for part in piece.parts()]
+        lists = [f"{piece.name}_{part.lower()}" for piece in self.lent() for part in piece.parts()]
         arms = "".join(f"    if z <= {piece.end()} {{\n        return {self.arm(piece)};\n    }}\n" for piece in self.pieces[:-1])
         return f"""// {self.what}'s coefficients of the {self.band} band in {self.routine}, packed: the fit of the piece that Z chooses.
+#![tactic(auto)]
+
 mod blocks;
 
-use fit::Edge;
-use fit::Form;
-ghost use mathlib.Core.Path.{{_≡_}};
-ghost use Rattle·weight.specs.Choice.{{weightBy}};
-ghost use Rattle·fit.specs.Fit.{{{self.makers(self.lent())}}};
-ghost use Rattle·fit.specs.Edge.{{edgeWith, Workable}};
-ghost use Rattle·{self.crate}·specs.specs.Pieces.{{{", ".join([f"{self.band}Piece", *lists])}}};
+ghost use Rattle.std.specs.Prelude.{{◌≡◌}};
+ghost use Rattle.weight.specs.Choice.{{weight_by}};
+ghost use Rattle.fit.specs.Fit.{{{self.makers(self.lent())}}};
+ghost use Rattle.fit.specs.Edge.{{edge_with, Workable}};
+ghost use Rattle.{self.crate}.specs.Pieces.{{{", ".join([f"{self.band}_piece", *lists])}}};
+
+use fit::{{Edge, Form}};
 
 // {self.what}'s fit of the {self.band} band.
 pub fn {self.function}(y: i64, z: i64) -> Edge
-    requires {{ ⌜ Workable ({self.band}Piece z) y z ⌝ }}
-    ensures {{ λ r. ⌜ r ≡ edgeWith weightBy ({self.band}Piece z) y z ⌝ }}
+    requires {{ Workable ({self.band}_piece z) y z }}
+    ensures {{ result ≡ edge_with weight_by ({self.band}_piece z) y z }}
 {{
 {arms}    {self.arm(self.pieces[-1])}
 }}
@@ -226,94 +222,85 @@ pub fn {self.function}(y: i64, z: i64) -> Edge
         return f"""-- Every coefficient of {self.what.lower()}'s pieces in the {band} band is small: one computed test over the table.
 use lib.Dec.{{T}}
 use lib.IntN.{{ℤ}}
-use Rattle·fit.specs.Edge.{{Small}}
-use Rattle·fit.proofs.Pieces.{{allSmall, small-in}}
-use Rattle·bands.specs.Units.{{indexIn}}
-use Rattle·{self.crate}·specs.specs.Pieces.{{{band}Ends, {band}Pieces, {band}Piece}}
+use Rattle.fit.specs.Edge.{{Small}}
+use Rattle.fit.proofs.Pieces.{{all_small, small_in}}
+use Rattle.bands.specs.Units.{{index_in}}
+use Rattle.{self.crate}.specs.Pieces.{{{band}_ends, {band}_pieces, {band}_piece}}
 
-table-small : T (allSmall {band}Pieces)
-unfolding allSmall {band}Pieces
-table-small = tt
+table_small : T (all_small {band}_pieces)
+unfolding all_small {band}_pieces
+table_small = tt
 
-pub piece-small : (z : ℤ) → Small ({band}Piece z)
-piece-small z = small-in {band}Pieces table-small (indexIn {band}Ends z)
+pub piece_small : (z : ℤ) → Small ({band}_piece z)
+piece_small z = small_in {band}_pieces table_small (index_in {band}_ends z)
 """
 
     def above(self, k, last):
         """the tests that were passed on the way to the k-th, or past it"""
-        return [f"above-{j} ({before(k - j)})" if k > j else f"above-{j} c" for j in range(1, k + last)]
+        return [f"above_{j} {before(k - j)}" for j in range(1, k + last)]
 
     def indices(self):
         text = ["-- ---- Z is above an end that was passed"]
         for k, end in enumerate(self.ends(), 1):
-            text.append(f"above-{k} : (c : tie.Else{k}) → leZ ({before(k)} .args .z) (pos {end}) ≡ false")
-            text.append(f"above-{k} c = let t = rw (back ({before(k)} .fits .z)) at (c .if{k} .left) in omega tests\n")
+            text.append(f"above_{k} : (c : Else-z-le{end}) → le_z c.args.z (pos {end}) ≡ false")
+            text.append(f"above_{k} c = let t = rw (back c.ranges.z) at c.if-z-le{end}.false in omega tests\n")
         text.append("-- ---- the piece's index, where a test holds and behind the last")
         for k, end in enumerate(self.ends(), 1):
             facts = [*self.above(k, 0), "below"]
-            text.append(f"""index-{k} : (c : tie.Then{k}) → indexIn {self.band}Ends ({before(k)} .args .z) ≡ {k - 1}
-index-{k} c =
-    let t = rw (back ({before(k)} .fits .z)) at (c .if{k} .taken) in
-    let below : leZ ({before(k)} .args .z) (pos {end}) ≡ true = omega tests in
+            text.append(f"""index_{k} : (c : Then-z-le{end}) → index_in {self.band}_ends c.args.z ≡ {k - 1}
+index_{k} c =
+    let t = rw (back c.ranges.z) at c.if-z-le{end}.true in
+    let below : le_z c.args.z (pos {end}) ≡ true = omega tests in
     simp {facts[0] if k == 1 else f"({', '.join(facts)})"}
 """)
         k = len(self.ends())
-        text.append(f"index-{k + 1} : (c : tie.Else{k}) → indexIn {self.band}Ends ({before(k)} .args .z) ≡ {k}")
-        text.append(f"index-{k + 1} c = simp ({', '.join(self.above(k, 1))})\n")
+        text.append(f"index_{k + 1} : (c : Else-z-le{end}) → index_in {self.band}_ends c.args.z ≡ {k}")
+        text.append(f"index_{k + 1} c = simp ({', '.join(self.above(k, 1))})\n")
         return "\n".join(text)
 
     def arms(self):
-        """the facts of each piece's arm, and their names in order"""
-        band, text, names = self.band, [], []
-        for i, piece in enumerate(self.pieces):
-            returns = f"returns-{i + 1}" if i else "returns"
+        """the facts of each piece's arm"""
+        band, text = self.band, []
+        for i, (piece, end) in enumerate(zip(self.pieces, [*self.ends(), None])):
+            returns = f"returns-then-z-le{end}" if end else "returns"
             steps = min(i + 1, len(self.ends()))
             if piece.constant():
-                text.append(f"""{returns} : tie.Need-{returns}
-unfolding {band}Pieces
-{returns} c = let s = {before(steps)} in rw (index-{i + 1} c, constant-is _ (s .args .y) (s .args .z))
+                text.append(f"""pub {returns} : goal.{returns}
+unfolding {band}_pieces
+{returns} c = let s = {before(steps)} in rw (index_{i + 1} c, constant_is _ s.args.y s.args.z)
 """)
-                names.append(returns)
                 continue
             takes = f"{piece.name}-requires"
-            same = f"same-piece {band}Pieces"
-            text.append(f"""{takes} : tie.Need-{takes}
-unfolding {band}Pieces
-{takes} c κs = let s = {before(steps)} in arm-takes ({same} (index-{i + 1} c)) (s .fits .y) (s .fits .z) (s .pre)
+            same = f"same_piece {band}_pieces"
+            text.append(f"""pub {takes} : goal.{takes}
+unfolding {band}_pieces
+{takes} c = let s = {before(steps)} in arm_takes ({same} (index_{i + 1} c)) s.ranges.y s.ranges.z s.requires
 
-{returns} : tie.Need-{returns}
-unfolding {band}Pieces
-{returns} c = let s = {before(steps + 1)} in arm-gives ({same} (index-{i + 1} (c .before))) (s .fits .y) (s .fits .z) (c .{piece.name} .ensures)
+pub {returns} : goal.{returns}
+unfolding {band}_pieces
+{returns} c = let s = {before(steps + 1)} in arm_gives ({same} (index_{i + 1} c.before)) s.ranges.y s.ranges.z c.{piece.name}.ensures
 """)
-            names += [takes, returns]
-        return "\n".join(text), names
+        return "\n".join(text)
 
     def chosen(self):
-        arms, names = self.arms()
-        facts = "\n    ".join(names)
-        constant = "use Rattle·bicubic.proofs.Constant.{constant-is}\n" if self.pieces[0].constant() else ""
+        constant = "use Rattle.bicubic.proofs.Constant.{constant_is}\n" if self.pieces[0].constant() else ""
+        places = sorted(f"{place}-z-le{end}" for place in ("Then", "Else") for end in self.ends())
         return f"""-- `{self.crate}::{self.function}` meets its contract: each arm has the piece that Z chooses.
 use mathlib.Core.Bool.{{true, false}}
-use mathlib.Core.Path.{{_≡_}}
+use mathlib.Core.Path.{{◌≡◌}}
 use lib.IntN.{{pos}}
-use lib.Signed.{{leZ}}
-use Rattle·integer.proofs.Machine.{{back}}
-{constant}use Rattle·bands.specs.Units.{{indexIn}}
-use Rattle·bands.proofs.Tests.{{tests}}
-use Rattle·fit.proofs.Arms.{{same-piece, arm-takes, arm-gives}}
-use Rattle·{self.crate}·specs.specs.Pieces.{{{self.band}Ends, {self.band}Pieces}}
-use Rattle·{self.crate}·proofs.proofs.{self.function}.Statement.{{statement}}
-use Rattle·{self.crate}·proofs.proofs.{self.function}.Tie as tie
+use lib.Signed.{{le_z}}
+use Rattle.integer.proofs.Machine.{{back}}
+{constant}use Rattle.bands.specs.Units.{{index_in}}
+use Rattle.bands.proofs.Tests.{{tests}}
+use Rattle.fit.proofs.Arms.{{same_piece, arm_takes, arm_gives}}
+use Rattle.{self.crate}.specs.Pieces.{{{self.band}_ends, {self.band}_pieces}}
+use Rattle.{self.crate}.proofs.{self.function}.Goals as goal
+use Rattle.{self.crate}.proofs.{self.function}.Goals.{{{", ".join(places)}}}
 
 {self.indices()}
 -- ---- the arms
-{arms}
-pub {self.function}-spec : {{M : Type 1}} → statement M
-{self.function}-spec =
-    tie.close
-    (tie.spec
-    {facts})
-"""
+{self.arms()}"""
 
     def files(self):
         files = {
@@ -323,9 +310,9 @@ pub {self.function}-spec : {{M : Type 1}} → statement M
             "src/blocks.rt": self.blocks(),
             "proofs/Lib.antt": "pub mod Pieces\n",
             "proofs/Pieces.antt": self.small(),
-            f"proofs/{self.function}/Proof.antt": self.chosen(),
+            f"proofs/{self.function}/Answers.antt": self.chosen(),
         }
-        return files | {f"proofs/{piece.name}/Proof.antt": piece.proof(self.crate) for piece in self.lent()}
+        return files | {f"proofs/{piece.name}/Answers.antt": piece.proof(self.crate) for piece in self.lent()}
 
 
 # a listing: its numerals, the crates' name, the routine, what it gives, the function's name, and the labels of each band's pieces

@@ -50,9 +50,17 @@ def printed(file):
 
 
 def laid_out(words):
-    """an array as rt fmt has it: on one line where its numbers take 60 characters or fewer"""
+    """an array as rt fmt has it: on one line where its numbers take 60 characters or fewer, else in lines of at most 100 where each
+    number has 10 at the most, else a number a line"""
     line = f"[{', '.join(map(str, words))}]"
-    return line if len(line) - 2 <= 60 else "[\n" + "".join(f"    {word},\n" for word in words) + "]"
+    if len(line) - 2 <= 60:
+        return line
+    lines = [""]
+    for word in words:
+        if lines[-1] and (max(len(str(w)) for w in words) > 10 or len(f"    {lines[-1]} {word},") > 100):
+            lines.append("")
+        lines[-1] += f" {word}," if lines[-1] else f"{word},"
+    return "[\n" + "".join(f"    {line}\n" for line in lines) + "]"
 
 
 def block(label, name, statements, numbers):

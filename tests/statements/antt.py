@@ -10,8 +10,8 @@ TYPE = re.compile(rf"\s*({MARKS})(data|record) (\S+)")
 COMMENT = re.compile(r"(?:^|(?<= ))--(?: .*)?$")
 TOKEN = re.compile(r"\[\]|[^\s(){}\[\],;⌜⌝]+")
 STRANGE = re.compile(
-    r"[^\S ]|\{-|\"|«|\bderiving\b|\bpackage\.|^(?!use ).*Rattle·"
-    r"|^\s*(mutual|infix[lr]?|open|axiom|(unfoldable )?pub use)\b"
+    r"[^\S ]|\{-|\"|«|\bderiving\b|\bpackage\.|^(?!use ).*\bRattle\."
+    r"|^\s*(mutual|infix[lr]?|open|axiom|syntax|opaque|(unfoldable )?pub use)\b"
 )
 
 
@@ -131,7 +131,7 @@ def read(file, lines, headings, place):
         elif made := re.fullmatch(r"(?:pub )?mod (\S+)", line):
             file.children.append(made[1])
         elif not line.startswith("unfolding "):
-            if not last or not {last.name, *last.name.split("_")} & set(TOKEN.findall(line.split(" =")[0])):
+            if not last or not {last.name, *last.name.split("◌")} & set(TOKEN.findall(line.split(" =")[0])):
                 raise unknown(place, line)
             last.equations.append(chunk)
 

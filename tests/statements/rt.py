@@ -7,13 +7,18 @@ import antt
 
 
 def bring(file, line, place):
-    """`use crate::Name;`, or `ghost use` before a line of a specs file; a function is no part of a contract"""
+    """`use crate::Name;`, `use crate::{Name, Other};`, or `ghost use` before a line of a specs file; a function or a module is no part of a
+    contract"""
     if line.startswith("ghost use "):
         antt.bring(file, line.removeprefix("ghost ").removesuffix(";"), place)
-    elif not (made := re.fullmatch(r"use (\w+)::(\w+);", line)):
+    elif not (made := re.fullmatch(r"use (\w+)((?:::\w+)*)::(?:(\w+)|\{([\w, ]+)\});", line)):
         raise antt.unknown(place, line)
-    elif made[2][0].isupper():
-        file.names[made[2]] = (made[1], made[2])
+    else:
+        for name in re.split(r",\s*", made[3] or made[4].rstrip(", ")):
+            if " " in name or name[0].isupper() and made[1] in ("crate", "self", "super"):
+                raise antt.unknown(place, line)
+            if name[0].isupper():
+                file.names[name] = (made[1] + made[2].replace("::", "."), name)
 
 
 def item(lines):
@@ -22,16 +27,22 @@ def item(lines):
     if made := re.match(r"(?:pub )?(struct|enum|type|const) (\w+)", lines[top]):
         end = next(i for i in range(top, len(lines)) if re.search(r"[;}]$", lines[i]) and lines[i][0] != " ")
         return antt.Definition(made[2], "", made[1], (), lines[: end + 1])
-    if "#[no_mangle]" in lines[:top] or lines[top].startswith("fn run("):
+    if "#[unsafe(no_mangle)]" in lines[:top] or re.match(r"fn run[(<]", lines[top]):
         end = next(i for i in range(top, len(lines)) if lines[i].endswith("{") and lines[i][0] != " ")
         head = [*lines[:end], *filter(None, [lines[end][:-1].rstrip()])]
         return antt.Definition(re.search(r"\bfn (\w+)", antt.joined(head))[1], "", "entry", (), head)
     return None
 
 
+def bare(text):
+    """the lines without comments and without what only tells the prover how, a `use` on one line"""
+    text = "\n".join(line.rstrip() for line in text.splitlines() if line.strip() and not line.lstrip().startswith("//"))
+    text = re.sub(r"^#!?\[tactic\((?:[^()]|\((?:[^()]|\([^()]*\))*\))*\)\]\n", "", text, flags=re.M)
+    return re.sub(r"^(?:ghost )?use [^;]*;", lambda made: re.sub(r"\s+", " ", made[0]), text, flags=re.M).splitlines()
+
+
 def parse(text, place):
-    file = antt.File()
-    lines = [line.rstrip() for line in text.splitlines() if line.strip() and not line.lstrip().startswith("//")]
+    file, lines = antt.File(), bare(text)
     for at, line in enumerate(lines):
         if re.match(r"(ghost )?use ", line):
             bring(file, line, place)

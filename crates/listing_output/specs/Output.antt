@@ -1,6 +1,5 @@
 -- What the listing program keeps account of its output.
-use Rattle.std.specs.Prelude.{false, List, ◌≡◌, ℕ, ◌≤◌, length}
-use Rattle.std.specs.Prelude.{◌-◌, Option}
+use Rattle.std.specs.Prelude.{false, List, ◌≡◌, ℕ, ◌-◌, ◌≤◌, length, Option}
 use Rattle.std.specs.Io.KnownBytes.{Appends}
 use Rattle.octets.specs.Bytes.{part}
 use Rattle.listing_output.specs.declared.Written.{Written}
