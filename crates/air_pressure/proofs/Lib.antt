@@ -1,4 +1,5 @@
 pub mod Fit
 pub mod Distances
+pub mod Judged
 pub mod Sound
 pub mod PressureAt

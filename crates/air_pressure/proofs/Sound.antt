@@ -15,16 +15,13 @@ use Rattle.air.specs.Property.{AcceptedBy}
 use Rattle.air.specs.Choices.{Choices, Lawful}
 use Rattle.air.specs.Carried.{energy_logs}
 use Rattle.air.proofs.Tests.{not_left}
-use Rattle.air.proofs.Places.{Measured, Judges, shown_claim, fitted_shown, Unrefused, fit_unrefused, ServesAt, fitted_allowed}
+use Rattle.air.proofs.Places.{Measured, shown_claim, fitted_shown, Unrefused, fit_unrefused, ServesAt, fitted_allowed}
 use Rattle.air.proofs.Strips.{each_in_range}
+use Rattle.air_pressure.proofs.Judged.{judged}
 use Rattle.air_pressure.proofs.Fit.{GammaBox, gamma_near, gamma_served}
 use Rattle.air.proofs.Ranges.{y_range, z_least}
 use Rattle.air.proofs.Sound.{Sound}
 use Rattle.air.proofs.Lawful.{energy_logs_lem}
-
--- the property's tests are its rule's
-judged : (e d : ℕ) (l : Logs) → Judges pressure_property (pressure_rule e d) (strip_of l.y) l
-judged e d l = record { by_logs_lem = λ t. t; by_fit_lem = λ e t. t; logs_alone = λ t. t; fit_alone = λ e t. t }
 
 module _ (n : ℕ) (n-least : 128 ≤ n) (e d : ℕ) where
   gamma_measured : Measured gamma_distance n (pressure_rule e d) (λ f g v. v ≡ pressure_of e d g) GammaBox

@@ -1,5 +1,5 @@
 -- Every temperature that may be held for an accepted state meets demand 3's claim.
-use mathlib.Core.Bool.{Bool, true, false, not}
+use mathlib.Core.Bool.{Bool, true, false}
 use mathlib.Core.Path.{◌≡◌, refl, sym, ap, subst, ◌∙◌}
 use Prim.Native.Nat.{ℕ, ◌≤◌}
 use native.Mathlib.Omega.{arith}
@@ -21,11 +21,12 @@ use Rattle.air_temperature.specs.Temperature.{letter_t, temperature_rule, IsTemp
 use Rattle.air.specs.Carried.{PressureLogs}
 use Rattle.air_temperature.specs.Claim.{fit_distance, KelvinClaim, TemperatureClaim}
 use Rattle.air_temperature.specs.Property.{temperature_property}
-use Rattle.air.specs.Property.{refuses_logs, AcceptedBy, unfitted}
-use Rattle.air.proofs.Tests.{not_right, no_true, is_false, is_true, over}
+use Rattle.air.specs.Property.{AcceptedBy, unfitted}
+use Rattle.air.proofs.Tests.{not_right, is_false, is_true, over}
 use Rattle.air.proofs.Places.{Measured, Judges, no_place, shown_claim, fitted_shown, Unrefused, fit_unrefused}
 use Rattle.air.proofs.Strips.{each_in_range}
 use Rattle.air.proofs.Ranges.{YRange, y_range}
+use Rattle.air_temperature.proofs.Inside.{inside}
 use Rattle.air_temperature.proofs.Fit.{FittedBox, fit_near}
 use Rattle.air_temperature.proofs.Between.{temperature_between}
 
@@ -83,7 +84,7 @@ module _ (n : ℕ) (n-least : 128 ≤ n) (p d : ℕ) (in-density : T (is_density
       at a b = pick_region a Refused (pick_region b Perfect (Fitted (band_of l.y) (temperature_index (band_of l.y) l.z)))
 
       go : (a b : Bool) → beyond_window l.z ≡ a → is_perfect l.z ≡ b → IsTemperatureIn (at a b) p d l h → TemperatureClaim n p d h
-      go true b e₁ e₂ s = absurd (no_true e₁ (subst (λ (x : Held). T (not (refuses_logs temperature_property x.logs))) s ok.by_logs_lem))
+      go true b e₁ e₂ s = absurd (inside p d l h ok e₁ s)
       go false true e₁ e₂ s = subst (TemperatureClaim n p d) (sym s) (perfect_claim e₂)
       go false false e₁ e₂ s = from_fit h ok e₁ e₂ s
 

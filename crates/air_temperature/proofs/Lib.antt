@@ -1,6 +1,7 @@
 pub mod Between
 pub mod Fit
 pub mod Distances
+pub mod Inside
 pub mod Claim
 pub mod Allowed
 pub mod Sound

@@ -1,36 +1,48 @@
 -- `evaluate::evaluate` follows the kind; what the choices make is allowed.
 use mathlib.Core.Path.{◌≡◌, refl, sym, ap, ◌∙◌}
+use Prim.Native.Nat.{ℕ}
+use borrow.Author.Rules.{rules}
 use Rattle.kind.specs.declared.Kind.{Kind}
+use Rattle.kind.specs.declared.Kind.TheVariants.{Temperature, Entropy, Pressure, Unknown}
+use Rattle.kind.specs.Kind.{kind_of}
 use Rattle.air.specs.declared.Answer.{Answer}
-use Rattle.air.specs.Held.{held}
+use Rattle.air.specs.Held.{Held, held}
 use Rattle.air.specs.Choices.{chosen}
 use Rattle.state.specs.State.{property_of, answer_by, IsAnswer}
 use Rattle.air.specs.Property.{held_by}
 use Rattle.state.proofs.State.{allowed}
 use Rattle.air.proofs.Lawful.{lawful}
 use Rattle.evaluate.proofs.evaluate.Goals as goal
-use Rattle.evaluate.proofs.evaluate.Goals.{After-kind_of}
 
--- an answer that holds what its kind makes is the choices' answer, and allowed
-by_kind : (c : After-kind_of) (k : Kind) (a : Answer) → c.kind_of.result ≡ k → held a ≡ held_by chosen (property_of k) c.args.first c.args.second
-    → (held a ≡ answer_by chosen c.args.kind c.args.first c.args.second) × IsAnswer c.args.kind c.args.first c.args.second a
-unfolding answer_by
-by_kind c k a e h =
-    let made = h ∙ ap (λ (x : Kind). held_by chosen (property_of x) c.args.first c.args.second) (sym e ∙ c.kind_of.ensures) in
-    (made, allowed chosen lawful c.args.kind c.args.first c.args.second a made)
+-- what the kind makes is what the choices hold, and allowed
+module _ (kind first second : ℕ) (r k : Kind) (told : r ≡ kind_of kind) (is : r ≡ k) where
+  made : (h : Held) → h ≡ held_by chosen (property_of k) first second → h ≡ answer_by chosen kind first second
+  unfolding answer_by
+  made h e = e ∙ ap (λ (x : Kind). held_by chosen (property_of x) first second) (sym is ∙ told)
 
-pub returns-in-Temperature : goal.returns-in-Temperature
-returns-in-Temperature c = let both = by_kind (goal.at.returns-in-Temperature c).After-kind_of _ _ c.in-Temperature.is c.temperature.ensures in
-    record { result_value = both.0; answer = both.1 }
+  is_answer : (a : Answer) → held a ≡ held_by chosen (property_of k) first second → IsAnswer kind first second a
+  is_answer a e = allowed chosen lawful kind first second a (made (held a) e)
 
-pub returns-in-Entropy : goal.returns-in-Entropy
-returns-in-Entropy c = let both = by_kind (goal.at.returns-in-Entropy c).After-kind_of _ _ c.in-Entropy.is c.entropy.ensures in
-    record { result_value = both.0; answer = both.1 }
+pub returns-in-Temperature-clause-result_value : goal.returns-in-Temperature-clause-result_value
+returns-in-Temperature-clause-result_value c = made c.args.kind c.args.first c.args.second c.kind_of.result Temperature c.kind_of.ensures c.in-Temperature.is _ (search rules)
 
-pub returns-in-Pressure : goal.returns-in-Pressure
-returns-in-Pressure c = let both = by_kind (goal.at.returns-in-Pressure c).After-kind_of _ _ c.in-Pressure.is c.pressure.ensures in
-    record { result_value = both.0; answer = both.1 }
+pub returns-in-Temperature-clause-answer : goal.returns-in-Temperature-clause-answer
+returns-in-Temperature-clause-answer c = is_answer c.args.kind c.args.first c.args.second c.kind_of.result Temperature c.kind_of.ensures c.in-Temperature.is _ (search rules)
 
-pub returns-in-Unknown : goal.returns-in-Unknown
-returns-in-Unknown c = let both = by_kind (goal.at.returns-in-Unknown c).After-kind_of _ _ c.in-Unknown.is refl in
-    record { result_value = both.0; answer = both.1 }
+pub returns-in-Entropy-clause-result_value : goal.returns-in-Entropy-clause-result_value
+returns-in-Entropy-clause-result_value c = made c.args.kind c.args.first c.args.second c.kind_of.result Entropy c.kind_of.ensures c.in-Entropy.is _ (search rules)
+
+pub returns-in-Entropy-clause-answer : goal.returns-in-Entropy-clause-answer
+returns-in-Entropy-clause-answer c = is_answer c.args.kind c.args.first c.args.second c.kind_of.result Entropy c.kind_of.ensures c.in-Entropy.is _ (search rules)
+
+pub returns-in-Pressure-clause-result_value : goal.returns-in-Pressure-clause-result_value
+returns-in-Pressure-clause-result_value c = made c.args.kind c.args.first c.args.second c.kind_of.result Pressure c.kind_of.ensures c.in-Pressure.is _ (search rules)
+
+pub returns-in-Pressure-clause-answer : goal.returns-in-Pressure-clause-answer
+returns-in-Pressure-clause-answer c = is_answer c.args.kind c.args.first c.args.second c.kind_of.result Pressure c.kind_of.ensures c.in-Pressure.is _ (search rules)
+
+pub returns-in-Unknown-clause-result_value : goal.returns-in-Unknown-clause-result_value
+returns-in-Unknown-clause-result_value c = made c.args.kind c.args.first c.args.second c.kind_of.result Unknown c.kind_of.ensures c.in-Unknown.is _ refl
+
+pub returns-in-Unknown-clause-answer : goal.returns-in-Unknown-clause-answer
+returns-in-Unknown-clause-answer c = is_answer c.args.kind c.args.first c.args.second c.kind_of.result Unknown c.kind_of.ensures c.in-Unknown.is _ refl
