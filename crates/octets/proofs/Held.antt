@@ -7,13 +7,13 @@ use native.Mathlib.Omega.{arith}
 use lib.ListN.{length, take, drop, length-append}
 use lib.Seq.{take_at}
 use Rattle.octets.specs.Room.{Text, refused, text, written, outcome_of}
-use Rattle.octets.specs.declared.Outcome.TheVariants.{Done, Refused}
+use Rattle.std.specs.Prelude.{Ok, Err}
 
-pub held_refused : (t : Text) (k : ℕ) → outcome_of t ≡ Refused k → t ≡ refused k
+pub held_refused : (t : Text) (k : ℕ) → outcome_of t ≡ Err k → t ≡ refused k
 held_refused (refused n) k e = let p : n ≡ k = cc in ap refused p
 held_refused (text t) k e = let p : ◌≡◌ {A = ℕ} 0 1 = cc in let q : ⊥ = omega arith in absurd q
 
-pub held_done : (t : Text) (n : ℕ) (room : List ℕ) → outcome_of t ≡ Done n → t ≡ text (take n (written t room))
+pub held_done : (t : Text) (n : ℕ) (room : List ℕ) → outcome_of t ≡ Ok n → t ≡ text (take n (written t room))
 held_done (refused k) n room e = let p : ◌≡◌ {A = ℕ} 0 1 = cc in let q : ⊥ = omega arith in absurd q
 held_done (text t) n room e = let p : length t ≡ n = cc in sym (ap text (take_at t (drop (length t) room) n p))
 

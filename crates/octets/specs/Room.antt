@@ -1,7 +1,5 @@
 -- A text into lent room: what is refused, and what the room holds afterwards. Defined once for all crates.
-use Rattle.std.specs.Prelude.{cond, List, ◌++◌, ℕ, ◌+◌, leb, length, take, drop}
-use Rattle.octets.specs.declared.Outcome.{Outcome}
-use Rattle.octets.specs.declared.Outcome.TheVariants.{Done, Refused}
+use Rattle.std.specs.Prelude.{cond, List, ◌++◌, ℕ, ◌+◌, leb, length, take, drop, Result, Ok, Err}
 
 -- bytes, or a refusal's number
 pub data Text : Type 0 where
@@ -22,6 +20,6 @@ abbrev pub put_at : List ℕ → ℕ → List ℕ → List ℕ
 put_at room at t = take at room ++ (t ++ drop (at + length t) room)
 
 -- the answer that goes with a text: how many bytes it has, or the number of the refusal
-abbrev pub outcome_of : Text → Outcome
-outcome_of (refused n) = Refused n
-outcome_of (text t) = Done (length t)
+abbrev pub outcome_of : Text → Result ℕ ℕ
+outcome_of (refused n) = Err n
+outcome_of (text t) = Ok (length t)
