@@ -7,9 +7,9 @@ use native.Mathlib.Omega.{arith}
 use borrow.Author.Tests.{ne_eqb, ltb-true, ltb-false}
 use lib.Dec.{ltb}
 use Rattle.kind.specs.Kind.{kind_of, is_known}
-use Rattle.kind.specs.declared.Kind.TheVariants.{Unknown}
+use Rattle.std.specs.Prelude.{None}
 
-pub no_kind : (k : ℕ) → 255 < k → kind_of k ≡ Unknown
+pub no_kind : (k : ℕ) → 255 < k → kind_of k ≡ None
 no_kind k h = simp (ne_eqb k 1 (λ e. omega arith), ne_eqb k 2 (λ e. omega arith), ne_eqb k 3 (λ e. omega arith))
 
 pub known_byte : (k : ℕ) → is_known (kind_of k) ≡ true → k < 256

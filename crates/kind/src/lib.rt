@@ -2,40 +2,37 @@
 #![tactic(auto)]
 
 ghost use Rattle.std.specs.Prelude.{◌≡◌};
-ghost use Rattle.kind.specs.Kind.{kind_of, is_known};
+ghost use Rattle.kind.specs.Kind.{kind_of, is_known, Names};
 
-#[derive(Clone, Copy)]
+use refusal::Refusal;
+
+// The kinds in the order of their bytes.
+#[derive(Clone, Copy, Debug, PartialEq, Eq)]
 pub enum Kind {
-    Temperature,
-    Entropy,
-    Pressure,
-    Unknown,
+    Temperature = 1,
+    Entropy = 2,
+    Pressure = 3,
 }
 
-// The kind that a byte names.
-pub fn kind_of(byte: u8) -> Kind
-    ensures { result ≡ kind_of byte }
-{
-    if byte == 1 {
-        return Kind::Temperature;
+impl TryFrom<u8> for Kind {
+    type Error = Refusal;
+
+    ghost try_from_gives = { Names };
+
+    // The kind that a byte names.
+    fn try_from(byte: u8) -> Result<Self, Refusal> {
+        match byte {
+            1 => Ok(Kind::Temperature),
+            2 => Ok(Kind::Entropy),
+            3 => Ok(Kind::Pressure),
+            _ => Err(Refusal::UnknownKind),
+        }
     }
-    if byte == 2 {
-        return Kind::Entropy;
-    }
-    if byte == 3 {
-        return Kind::Pressure;
-    }
-    Kind::Unknown
 }
 
 // Whether a byte names a kind at all: refusal 6 where it does not.
 pub fn is_known(byte: u8) -> bool
     ensures { result ≡ is_known (kind_of byte) }
 {
-    match kind_of(byte) {
-        Kind::Temperature => true,
-        Kind::Entropy => true,
-        Kind::Pressure => true,
-        Kind::Unknown => false,
-    }
+    Kind::try_from(byte).is_ok()
 }
