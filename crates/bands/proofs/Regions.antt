@@ -1,5 +1,5 @@
 -- What a region says of Y and Z.
-use mathlib.Core.Bool.{Bool, true, false}
+use mathlib.Core.Bool.{Bool, true, false, cond}
 use mathlib.Core.Path.{◌≡◌, refl}
 use Prim.Native.Nat.{ℕ, ◌<◌}
 use native.Mathlib.Omega.{arith}
@@ -7,7 +7,7 @@ use lib.IntN.{ℤ}
 use Rattle.bands.specs.declared.Band.{Band}
 use Rattle.bands.specs.declared.Region.TheVariants.{Refused, Perfect, Fitted}
 use Rattle.bands.specs.Bands.{band_of}
-use Rattle.bands.specs.Region.{temperature_index, piece_count, beyond_window, is_perfect, pick_region, region_of}
+use Rattle.bands.specs.Region.{temperature_index, piece_count, beyond_window, is_perfect, region_of}
 use Rattle.bands.proofs.Index.{index_is_piece}
 
 pub record IsPerfect (z : ℤ) : Type 0 where
@@ -18,7 +18,7 @@ pub perfect_region : (y z : ℤ) → region_of y z ≡ Perfect → IsPerfect z
 perfect_region y z e = go (beyond_window z) (is_perfect z) refl refl e
   where
     go : (p q : Bool) → beyond_window z ≡ p → is_perfect z ≡ q
-        → pick_region p Refused (pick_region q Perfect (Fitted (band_of y) (temperature_index (band_of y) z))) ≡ Perfect → IsPerfect z
+        → cond p Refused (cond q Perfect (Fitted (band_of y) (temperature_index (band_of y) z))) ≡ Perfect → IsPerfect z
     go true q h k e = let f : ◌≡◌ {A = ℕ} 0 1 = cc in absurd (omega arith)
     go false true h k e = record { window = h; perfect = k }
     go false false h k e = let f : ◌≡◌ {A = ℕ} 0 1 = cc in absurd (omega arith)
@@ -34,7 +34,7 @@ pub fitted_region : (y z : ℤ) {b : Band} {i : ℕ} → region_of y z ≡ Fitte
 fitted_region y z {b} {i} e = go (beyond_window z) (is_perfect z) refl refl e
   where
     go : (p q : Bool) → beyond_window z ≡ p → is_perfect z ≡ q
-        → pick_region p Refused (pick_region q Perfect (Fitted (band_of y) (temperature_index (band_of y) z))) ≡ Fitted b i → IsFitted y z b i
+        → cond p Refused (cond q Perfect (Fitted (band_of y) (temperature_index (band_of y) z))) ≡ Fitted b i → IsFitted y z b i
     go true q h k e = let f : ◌≡◌ {A = ℕ} 0 1 = cc in absurd (omega arith)
     go false true h k e = let f : ◌≡◌ {A = ℕ} 0 1 = cc in absurd (omega arith)
     go false false h k e =

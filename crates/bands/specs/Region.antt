@@ -1,5 +1,5 @@
 -- What a temperature's Y and Z choose.
-use Rattle.std.specs.Prelude.{Bool, true, false, ◌||◌, List, [], ◌∷◌, ℕ, ◌+◌, ℤ, pos, neg_ℤ, length}
+use Rattle.std.specs.Prelude.{Bool, cond, ◌||◌, List, [], ◌∷◌, ℕ, ◌+◌, ℤ, pos, neg_ℤ, length}
 use Rattle.std.specs.Int.Signed.{le_z, lt_z}
 use Rattle.bands.specs.declared.Band.{Band}
 use Rattle.bands.specs.declared.Band.TheVariants.{Low, Middle, High}
@@ -29,12 +29,6 @@ beyond_window z = lt_z z (neg_ℤ (pos 1000000)) || lt_z (pos 3000000) z
 abbrev pub is_perfect : ℤ → Bool
 is_perfect z = le_z z (pos 250000)
 
-abbrev pub pick_region : Bool → Region → Region → Region
-pick_region true a b = a
-pick_region false a b = b
-
 -- refusal 12, the perfect gas, or the band and the index of the fitted piece
 abbrev pub region_of : ℤ → ℤ → Region
-region_of y z =
-    pick_region (beyond_window z) Refused
-    (pick_region (is_perfect z) Perfect (Fitted (band_of y) (temperature_index (band_of y) z)))
+region_of y z = cond (beyond_window z) Refused (cond (is_perfect z) Perfect (Fitted (band_of y) (temperature_index (band_of y) z)))

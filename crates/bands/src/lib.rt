@@ -7,22 +7,22 @@ ghost use Rattle.bands.specs.Bands.{band_of, strip_of};
 ghost use Rattle.bands.specs.Region.{temperature_index, region_of};
 
 // A density band, chosen by Y.
-#[derive(Clone, Copy)]
+#[derive(Clone, Copy, Debug, PartialEq, Eq)]
 pub enum Band {
     Low,
     Middle,
     High,
 }
 
-// Where a property is joined: nowhere, or between two edges.
-#[derive(Clone, Copy)]
-pub enum Strip {
-    Clear,
-    Between(i64, i64),
+// The two edges between which a property is joined.
+#[derive(Clone, Copy, Debug, PartialEq, Eq)]
+pub struct Strip {
+    pub low: i64,
+    pub high: i64,
 }
 
 // What a temperature's Y and Z choose: refusal 12, the perfect gas, or a fitted piece of a band.
-#[derive(Clone, Copy)]
+#[derive(Clone, Copy, Debug, PartialEq, Eq)]
 pub enum Region {
     Refused,
     Perfect,
@@ -43,19 +43,25 @@ pub fn band_of(y: i64) -> Band
 }
 
 // The strip that a Y is inside of.
-pub fn strip_of(y: i64) -> Strip
+pub fn strip_of(y: i64) -> Option<Strip>
     ensures { result ≡ strip_of y }
 {
     if -4525000 < y && y < -4475000 {
-        return Strip::Between(-4525000, -4475000);
+        return Some(Strip {
+            low: -4525000,
+            high: -4475000,
+        });
     }
     if -505000 < y && y < -495000 {
-        return Strip::Between(-505000, -495000);
+        return Some(Strip {
+            low: -505000,
+            high: -495000,
+        });
     }
-    Strip::Clear
+    None
 }
 
-// Which of three parts z falls to.
+// Which of three parts z falls to. By ifs: an array of ends would be built anew at each temperature.
 fn third(z: i64, a: i64, b: i64) -> usize
     ensures { result ≡ index_in (a ∷ b ∷ []) z }
 {
