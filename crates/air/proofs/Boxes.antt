@@ -13,7 +13,7 @@ use Rattle.fit.proofs.Box.{Box, InBox, nowhere}
 use Rattle.bands.specs.Units.{index_in}
 use Rattle.bands.specs.declared.Band.{Band}
 use Rattle.bands.specs.declared.Band.TheVariants.{Low, Middle, High}
-use Rattle.bands.specs.Bands.{band_of, pick_band, low_edge, high_edge}
+use Rattle.bands.specs.Bands.{band_of, low_edge, high_edge}
 
 -- a test that fails says the other order
 below : (a b : ℤ) → le_z a b ≡ false → b ≤ℤ a
@@ -62,7 +62,7 @@ pub record InBand (b : Band) (y : ℤ) : Type 0 where
 pub in_band : (y : ℤ) → neg_ℤ (pos 7000000) ≤ℤ y → y ≤ℤ pos 3000000 → InBand (band_of y) y
 in_band y h l = go (le_z y low_edge) (le_z y high_edge) refl refl
   where
-    go : (p q : Bool) → le_z y low_edge ≡ p → le_z y high_edge ≡ q → InBand (pick_band p Low (pick_band q Middle High)) y
+    go : (p q : Bool) → le_z y low_edge ≡ p → le_z y high_edge ≡ q → InBand (cond p Low (cond q Middle High)) y
     go true q e f = record { least = h; most = upto y low_edge e }
     go false true e f = record { least = below y low_edge e; most = upto y high_edge f }
     go false false e f = record { least = below y high_edge f; most = l }

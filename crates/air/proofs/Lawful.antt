@@ -28,7 +28,7 @@ module _ (c : Choices) (law : Lawful c) where
   density_log d t = log_in _ _ D0 d t (lit< tt) (lit< tt) (lit< tt) (lit< tt)
 
   pub pressure_logs_lem : (p d : ℕ) → T (is_pressure p) → T (is_density d) → PressureLogs p d (pressure_logs c p d)
-  pressure_logs_lem p d a b = record { y = density_log d b; x = log_in _ _ P0 p a (lit< tt) (lit< tt) (lit< tt) (lit< tt); z = refl; triple = refl }
+  pressure_logs_lem p d a b = record { x = c.log p P0; carries_x = refl; x_log = log_in _ _ P0 p a (lit< tt) (lit< tt) (lit< tt) (lit< tt); y = density_log d b; z = refl }
 
   pub energy_logs_lem : (e d : ℕ) → T (is_energy e) → T (is_density d) → EnergyLogs e d (energy_logs c e d)
-  energy_logs_lem e d a b = record { y = density_log d b; z = log_in _ _ E0 e a (lit< tt) (lit< tt) (lit< tt) (lit< tt); x = refl; triple = refl }
+  energy_logs_lem e d a b = record { y = density_log d b; z = log_in _ _ E0 e a (lit< tt) (lit< tt) (lit< tt) (lit< tt); x = refl }

@@ -1,5 +1,6 @@
 -- Over any rule: what lawful choices make is allowed, and what is allowed meets the claim of demand 3.
 use mathlib.Core.Bool.{Bool, true, false, cond, not}
+use Rattle.std.specs.Prelude.{Option, Some, None}
 use mathlib.Core.Path.{◌≡◌, refl, sym, ap, ap₂, subst, ◌∙◌}
 use Prim.Native.Nat.{ℕ}
 use lib.Dec.{T}
@@ -11,7 +12,6 @@ use Rattle.fit.specs.Fit.{Piece, alone, joint, Weighs, fitted}
 use Rattle.fit.specs.Edge.{weight_with, ServedAt}
 use Rattle.fit.specs.Exact.{rounded, exact_fit}
 use Rattle.bands.specs.declared.Strip.{Strip}
-use Rattle.bands.specs.declared.Strip.TheVariants.{Clear, Between}
 use Rattle.air.specs.declared.Logs.{Logs}
 use Rattle.air.specs.declared.Edges.TheVariants.{Unfitted}
 use Rattle.air.specs.Held.{Held, judges}
@@ -22,17 +22,17 @@ use Rattle.air.specs.Property.{Property, refuses_logs, NoEdgeRefused, one, two, 
 use Rattle.air.proofs.Tests.{not_left, not_right, not_both, no_true, is_false}
 
 -- ---- what holds at every place
-pub each_place : (s : Strip) (P : ℤ → Type 0) → ((v : ℤ) → P v) → (y : ℤ) → AtPlaces s P y
-each_place Clear P f y = f y
-each_place (Between a b) P f y = (f a, f b)
+pub each_place : (s : Option Strip) (P : ℤ → Type 0) → ((v : ℤ) → P v) → (y : ℤ) → AtPlaces s P y
+each_place None P f y = f y
+each_place (Some s) P f y = (f s.low, f s.high)
 
-at_each : (s : Strip) (P Q : ℤ → Type 0) → ((v : ℤ) → P v → Q v) → (y : ℤ) → AtPlaces s P y → AtPlaces s Q y
-at_each Clear P Q f y h = f y h
-at_each (Between a b) P Q f y h = (f a h.0, f b h.1)
+at_each : (s : Option Strip) (P Q : ℤ → Type 0) → ((v : ℤ) → P v → Q v) → (y : ℤ) → AtPlaces s P y → AtPlaces s Q y
+at_each None P Q f y h = f y h
+at_each (Some s) P Q f y h = (f s.low h.0, f s.high h.1)
 
-none_at : (s : Strip) (t : ℤ → Bool) (y : ℤ) → T (not (any_place s t y)) → AtPlaces s (λ v. T (not (t v))) y
-none_at Clear t y h = h
-none_at (Between a b) t y h = (not_left (t a) (t b) h, not_right (t a) (t b) h)
+none_at : (s : Option Strip) (t : ℤ → Bool) (y : ℤ) → T (not (any_place s t y)) → AtPlaces s (λ v. T (not (t v))) y
+none_at None t y h = h
+none_at (Some s) t y h = (not_left (t s.low) (t s.high) h, not_right (t s.low) (t s.high) h)
 
 -- ---- what lawful choices make
 -- where nothing refuses by the logarithms, a weight serves the rule's piece
@@ -45,7 +45,7 @@ module _ (c : Choices) (law : Lawful c) where
   weighed (joint a b t) y z h = law.weight t.sign _ h
 
   pub fitted_allowed : (r : Rule) (value : ℤ → ℤ) → ((g : ℤ) → T (not (r.beyond_fit g)) → r.IsValue g (value g))
-      → (s : Strip) (l : Logs) → AtPlaces s (ServesAt r l.z) l.y → IsFit r s l (fitted_by c r value s l)
+      → (s : Option Strip) (l : Logs) → AtPlaces s (ServesAt r l.z) l.y → IsFit r s l (fitted_by c r value s l)
   fitted_allowed r value made s l serves =
       record {
         point = point_by c r value l.z;
@@ -56,7 +56,7 @@ module _ (c : Choices) (law : Lawful c) where
       }
 
 -- ---- what a program shows after its tests, at the places of any strip
-module _ (r : Rule) (s : Strip) (l : Logs) (q : ℤ → Point) where
+module _ (r : Rule) (s : Option Strip) (l : Logs) (q : ℤ → Point) where
   verdict : Bool → Bool → Held
   verdict a b = cond a (judges r.logs_number r.letter l Unfitted) (cond b (judges r.fit_number r.letter l (edges_at s q l.y)) (shows_at r s l q))
 
@@ -71,13 +71,13 @@ module _ (r : Rule) (s : Strip) (l : Logs) (q : ℤ → Point) where
   fit_shown e f = sym (ap₂ verdict e f)
 
 -- outside a strip only the state's own place counts
-pub own_place : (r : Rule) (l : Logs) {p : Point} (q : ℤ → Point) → p ≡ q l.y → held_at r Clear l (λ v. p) ≡ held_at r Clear l q
+pub own_place : (r : Rule) (l : Logs) {p : Point} (q : ℤ → Point) → p ≡ q l.y → held_at r None l (λ v. p) ≡ held_at r None l q
 unfolding held_at
-own_place r l q e = ap (λ (x : Point). held_at r Clear l (λ v. x)) e
+own_place r l q e = ap (λ (x : Point). held_at r None l (λ v. x)) e
 
 -- ---- the claim
 -- a property that refuses what its rule refuses, and nothing else
-pub record Judges (k : Property) (r : Rule) (s : Strip) (l : Logs) : Type 0 where
+pub record Judges (k : Property) (r : Rule) (s : Option Strip) (l : Logs) : Type 0 where
   pub by_logs_lem : T (not (k.by_logs l)) → T (not (any_place s (λ v. r.beyond_logs v l.z) l.y))
   pub by_fit_lem : (e : Edge) → T (not (k.by_fit e)) → T (not (r.beyond_fit e.fit))
   pub logs_alone : T (not (any_place s (λ v. r.beyond_logs v l.z) l.y)) → T (not (k.by_logs l))
@@ -90,26 +90,26 @@ pub record Measured (d n : ℕ) (r : Rule) (Claimed : Fraction → ℤ → ℤ �
   pub claimed : (f : Fraction) (g v : ℤ) → Within d g f → r.IsValue g v → Claimed f g v
 
 -- where a rule refuses nothing by the logarithms
-pub no_place : (s : Strip) (y : ℤ) → T (not (any_place s (λ v. false) y))
-no_place Clear y = tt
-no_place (Between a b) y = tt
+pub no_place : (s : Option Strip) (y : ℤ) → T (not (any_place s (λ v. false) y))
+no_place None y = tt
+no_place (Some s) y = tt
 
 -- an answer that shows a value, with what is claimed at every place
-pub record Shown (d n : ℕ) (r : Rule) (Claimed : Fraction → ℤ → ℤ → Type 0) (s : Strip) (l : Logs) (h : Held) : Type 0 where
+pub record Shown (d n : ℕ) (r : Rule) (Claimed : Fraction → ℤ → ℤ → Type 0) (s : Option Strip) (l : Logs) (h : Held) : Type 0 where
   pub point : ℤ → Point
   pub is : h ≡ shows_at r s l point
   pub points : AtPlaces s (λ v. PointClaim d n r Claimed v l.z (point v)) l.y
 
 -- is claimed as demand 3 has it
-pub shown_claim : {d n : ℕ} {r : Rule} {Claimed : Fraction → ℤ → ℤ → Type 0} {l : Logs} {h : Held} (s : Strip) → Shown d n r Claimed s l h → FitClaim d n r Claimed s l h
-shown_claim {l = l} Clear c = record { point = c.point l.y; is = c.is; claim = c.points }
-shown_claim (Between a b) c = record { low = c.point a; high = c.point b; is = c.is; low_claim = c.points.0; high_claim = c.points.1 }
+pub shown_claim : {d n : ℕ} {r : Rule} {Claimed : Fraction → ℤ → ℤ → Type 0} {l : Logs} {h : Held} (s : Option Strip) → Shown d n r Claimed s l h → FitClaim d n r Claimed s l h
+shown_claim {l = l} None c = record { point = c.point l.y; is = c.is; claim = c.points }
+shown_claim (Some s) c = record { low = c.point s.low; high = c.point s.high; is = c.is; low_claim = c.points.0; high_claim = c.points.1 }
 
 -- the edges of an accepted answer
 judged : (k : Property) (r : Rule) → ((e : Edge) → T (not (k.by_fit e)) → T (not (r.beyond_fit e.fit)))
-    → (s : Strip) (q : ℤ → Point) (y : ℤ) → NoEdgeRefused k (edges_at s q y) → T (not (any_place s (λ v. r.beyond_fit (q v).edge.fit) y))
-judged k r f Clear q y (one t) = f (q y).edge t
-judged k r f (Between a b) q y (two t u) = not_both (r.beyond_fit (q a).edge.fit) (r.beyond_fit (q b).edge.fit) (f (q a).edge t) (f (q b).edge u)
+    → (s : Option Strip) (q : ℤ → Point) (y : ℤ) → NoEdgeRefused k (edges_at s q y) → T (not (any_place s (λ v. r.beyond_fit (q v).edge.fit) y))
+judged k r f None q y (one t) = f (q y).edge t
+judged k r f (Some s) q y (two t u) = not_both (r.beyond_fit (q s.low).edge.fit) (r.beyond_fit (q s.high).edge.fit) (f (q s.low).edge t) (f (q s.high).edge u)
 
 module _ (d n : ℕ) (r : Rule) (Claimed : Fraction → ℤ → ℤ → Type 0) (Box : ℤ → ℤ → Type 0) (m : Measured d n r Claimed Box) where
   point_claim : (y z : ℤ) (q : Point) → Box y z → T (not (r.beyond_logs y z)) → IsPoint r y z q → T (not (r.beyond_fit q.edge.fit)) → PointClaim d n r Claimed y z q
@@ -118,12 +118,12 @@ module _ (d n : ℕ) (r : Rule) (Claimed : Fraction → ℤ → ℤ → Type 0) 
       let near : Within d q.edge.fit f = subst (λ (g : ℤ). Within d g f) (sym p.fit) (m.near y z q.edge.weight b u (p.weighed u)) in
       record { near = near; value = m.claimed f q.edge.fit q.value near (p.made t) }
 
-  points_claim : (s : Strip) (y z : ℤ) (q : ℤ → Point) → AtPlaces s (λ v. Box v z) y → AtPlaces s (λ v. T (not (r.beyond_logs v z))) y → AtPlaces s (λ v. IsPoint r v z (q v)) y
+  points_claim : (s : Option Strip) (y z : ℤ) (q : ℤ → Point) → AtPlaces s (λ v. Box v z) y → AtPlaces s (λ v. T (not (r.beyond_logs v z))) y → AtPlaces s (λ v. IsPoint r v z (q v)) y
       → AtPlaces s (λ v. T (not (r.beyond_fit (q v).edge.fit))) y → AtPlaces s (λ v. PointClaim d n r Claimed v z (q v)) y
-  points_claim Clear y z q b u p t = point_claim y z (q y) b u p t
-  points_claim (Between a c) y z q b u p t = (point_claim a z (q a) b.0 u.0 p.0 t.0, point_claim c z (q c) b.1 u.1 p.1 t.1)
+  points_claim None y z q b u p t = point_claim y z (q y) b u p t
+  points_claim (Some s) y z q b u p t = (point_claim s.low z (q s.low) b.0 u.0 p.0 t.0, point_claim s.high z (q s.high) b.1 u.1 p.1 t.1)
 
-  pub fitted_shown : (k : Property) (s : Strip) (l : Logs) → Judges k r s l → AtPlaces s (λ v. Box v l.z) l.y
+  pub fitted_shown : (k : Property) (s : Option Strip) (l : Logs) → Judges k r s l → AtPlaces s (λ v. Box v l.z) l.y
       → (v w : ℕ) (h : Held) → AcceptedBy k v w h → IsFit r s l h → Shown d n r Claimed s l h
   unfolding held_at
   fitted_shown k s l j box v w h ok it = go (any_place s (λ x. r.beyond_logs x l.z) l.y) (any_place s (λ x. r.beyond_fit (q x).edge.fit) l.y) refl refl it.is
@@ -152,13 +152,14 @@ pub record Unrefused (k : Property) (h : Held) : Type 0 where
   pub by_fit_lem : NoEdgeRefused k h.edges
 
 edges_pass : (k : Property) (r : Rule) → ((e : Edge) → T (not (r.beyond_fit e.fit)) → T (not (k.by_fit e)))
-    → (s : Strip) (q : ℤ → Point) (y : ℤ) → T (not (any_place s (λ v. r.beyond_fit (q v).edge.fit) y)) → NoEdgeRefused k (edges_at s q y)
-edges_pass k r f Clear q y t = one (f (q y).edge t)
-edges_pass k r f (Between a b) q y t =
-    two (f (q a).edge (not_left (r.beyond_fit (q a).edge.fit) (r.beyond_fit (q b).edge.fit) t))
-    (f (q b).edge (not_right (r.beyond_fit (q a).edge.fit) (r.beyond_fit (q b).edge.fit) t))
+    → (s : Option Strip) (q : ℤ → Point) (y : ℤ) → T (not (any_place s (λ v. r.beyond_fit (q v).edge.fit) y)) → NoEdgeRefused k (edges_at s q y)
+edges_pass k r f None q y t = one (f (q y).edge t)
+edges_pass k r f (Some s) q y t =
+    let low = (q s.low).edge in
+    let high = (q s.high).edge in
+    two (f low (not_left (r.beyond_fit low.fit) (r.beyond_fit high.fit) t)) (f high (not_right (r.beyond_fit low.fit) (r.beyond_fit high.fit) t))
 
-pub fit_unrefused : (k : Property) (r : Rule) (s : Strip) (l : Logs) → Judges k r s l → (r.logs_number ≡ 0 → ⊥) → (r.fit_number ≡ 0 → ⊥)
+pub fit_unrefused : (k : Property) (r : Rule) (s : Option Strip) (l : Logs) → Judges k r s l → (r.logs_number ≡ 0 → ⊥) → (r.fit_number ≡ 0 → ⊥)
     → (h : Held) → IsFit r s l h → h.number ≡ 0 → Unrefused k h
 unfolding held_at
 fit_unrefused k r s l j logs-number fit-number h it zero =

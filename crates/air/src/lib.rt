@@ -3,12 +3,12 @@
 #![tactic(auto)]
 
 use fit::Edge;
+use refusal::Refusal;
 
-// The logarithms that an answer carries, in whole millionths: y and z, and with `triple` also x, which is 0 elsewhere.
-#[derive(Clone, Copy)]
+// The logarithms that an answer carries, in whole millionths: y and z, and those of a pressure also x.
+#[derive(Clone, Copy, Debug, PartialEq, Eq)]
 pub struct Logs {
-    pub triple: bool,
-    pub x: i64,
+    pub x: Option<i64>,
     pub y: i64,
     pub z: i64,
 }
@@ -22,31 +22,31 @@ pub enum Edges {
 }
 
 // The values at a join's two edges.
-#[derive(Clone, Copy)]
-pub enum Ends {
-    Unjoined,
-    Both(i64, i64),
+#[derive(Clone, Copy, Debug, PartialEq, Eq)]
+pub struct Ends {
+    pub low: i64,
+    pub high: i64,
 }
 
 // The answer for a state. A letter says what was asked: T, S or P. The logarithms and the fits stand at one place in both cases that have
 // them, behind the shorter fields, so that an answer is handed on in whole words.
 #[derive(Clone, Copy)]
 pub enum Answer {
-    // The number alone.
-    Refused(u32),
+    // A refusal alone.
+    Refused(Refusal),
     // A refusal with what it was judged by: 12, 13, 17.
     Judged {
         letter: u8,
-        number: u32,
+        refusal: Refusal,
         logs: Logs,
         edges: Edges,
     },
-    // A value.
+    // A value, in a join with those at its edges.
     Shows {
         letter: u8,
         logs: Logs,
         edges: Edges,
-        ends: Ends,
+        ends: Option<Ends>,
         value: i64,
     },
 }
