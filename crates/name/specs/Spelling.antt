@@ -1,5 +1,5 @@
 -- Document 01, Names: the spelling of bytes by RFC 3986, written and read.
-use Rattle.std.specs.Prelude.{Bool, cond, ◌&&◌, ◌||◌, List, [], ◌∷◌, ◌++◌, ℕ, ◌+◌, ◌-◌, ◌*◌, ◌/◌, ◌%◌, ltb, leb, eqb}
+use Rattle.std.specs.Prelude.{Bool, cond, Option, Some, None, ◌&&◌, ◌||◌, List, [], ◌∷◌, ◌++◌, ℕ, ◌+◌, ◌-◌, ◌*◌, ◌/◌, ◌%◌, ltb, leb, eqb}
 
 -- whether x is at least the first number and at most the second
 abbrev pub within : ℕ → ℕ → ℕ → Bool
@@ -15,6 +15,10 @@ hex_value x = cond (within 48 57 x) (x - 48) (cond (within 65 70 x) (x - 55) (co
 
 abbrev pub is_hex : ℕ → Bool
 is_hex x = ltb (hex_value x) 16
+
+-- the value of a byte that is a hexadecimal digit
+abbrev pub digit_of : ℕ → Option ℕ
+digit_of x = cond (is_hex x) (Some (hex_value x)) None
 
 -- a hexadecimal digit, upper case
 abbrev pub hex_digit : ℕ → ℕ

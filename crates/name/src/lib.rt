@@ -2,30 +2,30 @@
 #![tactic(auto)]
 
 ghost use Rattle.std.specs.Prelude.{◌≡◌, ◌<◌};
-ghost use Rattle.name.specs.Spelling.{unreserved, hex_value, hex_digit};
+ghost use Rattle.name.specs.Spelling.{unreserved, digit_of, hex_digit};
+
+use arrayvec::ArrayVec;
+
+// A name: 1 to 40 bytes of any value.
+pub type Name = ArrayVec<u8, 40>;
+
+// A name as it is written: at most three bytes for each of its own.
+pub type Spelling = ArrayVec<u8, 120>;
 
 // Whether a byte stands for itself.
 #[tactic(auto, unfolding(crate::specs::Spelling::unreserved))]
 pub fn plain(x: u8) -> bool
     ensures { result ≡ unreserved x }
 {
-    match x {
-        b'A'..=b'Z' | b'a'..=b'z' | b'0'..=b'9' | b'-' | b'.' | b'_' | b'~' => true,
-        _ => false,
-    }
+    x.is_ascii_alphanumeric() || matches!(x, b'-' | b'.' | b'_' | b'~')
 }
 
-// The value of a hexadecimal digit of either case; 16 for any other byte.
+// The value of a hexadecimal digit of either case.
 #[tactic(auto, unfolding(crate::specs::Spelling::hex_value))]
-pub fn hex_value(x: u8) -> u8
-    ensures { result ≡ hex_value x }
+pub fn hex_value(x: u8) -> Option<u8>
+    ensures { result ≡ digit_of x }
 {
-    match x {
-        b'0'..=b'9' => x - b'0',
-        b'A'..=b'F' => x - b'A' + 10,
-        b'a'..=b'f' => x - b'a' + 10,
-        _ => 16,
-    }
+    Some(char::from(x).to_digit(16)? as u8)
 }
 
 // A hexadecimal digit, upper case.
@@ -33,5 +33,5 @@ pub fn hex_digit(n: u8) -> u8
     requires { n < 16 }
     ensures { result ≡ hex_digit n }
 {
-    if n < 10 { 48 + n } else { 55 + n }
+    if n < 10 { b'0' + n } else { b'A' + (n - 10) }
 }
