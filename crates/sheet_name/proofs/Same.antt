@@ -1,20 +1,12 @@
 -- Two lists of bytes compared one byte after another. Assumes nothing.
-use mathlib.Core.Bool.{Bool, true, false, ◌&&◌, and-false}
+use mathlib.Core.Bool.{Bool, true, false, ◌&&◌}
 use mathlib.Core.List.{List, [], ◌∷◌}
-use mathlib.Core.Path.{◌≡◌, refl, ap}
-use Prim.Native.Nat.{ℕ, suc, ◌+◌, ◌≤◌, ◌<◌}
-use native.Mathlib.Numerals.{add-one}
-use borrow.Author.Tests.{eqb-true, eq-eqb, ne_eqb}
+use mathlib.Core.Path.{◌≡◌, refl, ap, ◌∙◌}
+use Prim.Native.Nat.{ℕ}
+use borrow.Author.Tests.{eqb-true, eq-eqb}
 use lib.Dec.{eqb}
-use lib.ListN.{length, get_or, drop, drop_of_length-le}
-use lib.Seq.{drop-cons}
+use Rattle.std.specs.Str.{bytes_eq}
 use Rattle.octets.specs.Bytes.{same}
-
-pub lengths_differ : (xs ys : List ℕ) → (length xs ≡ length ys → ⊥) → same xs ys ≡ false
-lengths_differ [] [] h = absurd (h refl)
-lengths_differ [] (y ∷ ys) h = refl
-lengths_differ (x ∷ xs) [] h = refl
-lengths_differ (x ∷ xs) (y ∷ ys) h = rw (lengths_differ xs ys (λ e. h (ap suc e))) (and-false (eqb x y))
 
 pub same_refl : (xs : List ℕ) → same xs xs ≡ true
 same_refl [] = refl
@@ -32,19 +24,12 @@ same_equal (x ∷ xs) (y ∷ ys) h =
     let b : (eqb x y ≡ true) × (same xs ys ≡ true) = both_true (eqb x y) (same xs ys) h in
     cc (eqb-true x y b.0, same_equal xs ys b.1)
 
--- what is left of both after i bytes
-abbrev pub rest_same : List ℕ → List ℕ → ℕ → Bool
-rest_same xs ys i = same (drop i xs) (drop i ys)
+-- what `==` says of them
+pub bytes_eq-same : (xs ys : List ℕ) → bytes_eq xs ys ≡ same xs ys
+bytes_eq-same [] [] = refl
+bytes_eq-same [] (y ∷ ys) = refl
+bytes_eq-same (x ∷ xs) [] = refl
+bytes_eq-same (x ∷ xs) (y ∷ ys) = ap (λ (b : Bool). eqb x y && b) (bytes_eq-same xs ys)
 
-pub ended : (xs ys : List ℕ) (i : ℕ) → length xs ≤ i → length ys ≤ i → rest_same xs ys i ≡ true
-ended xs ys i h l = rw (drop_of_length-le xs h, drop_of_length-le ys l)
-
-module _ (xs ys : List ℕ) (i : ℕ) (h : i < length xs) (l : i < length ys) where
-  opened : rest_same xs ys i ≡ eqb (get_or xs i 0) (get_or ys i 0) && rest_same xs ys (i + 1)
-  opened = rw (drop-cons xs i 0 h, drop-cons ys i 0 l, add-one)
-
-  pub equal_byte : get_or xs i 0 ≡ get_or ys i 0 → rest_same xs ys i ≡ rest_same xs ys (i + 1)
-  equal_byte e = rw (opened, eq-eqb (get_or xs i 0) (get_or ys i 0) e)
-
-  pub other_byte : (get_or xs i 0 ≡ get_or ys i 0 → ⊥) → rest_same xs ys i ≡ false
-  other_byte e = rw (opened, ne_eqb (get_or xs i 0) (get_or ys i 0) e)
+pub eq_same : (xs ys : List ℕ) (r : Bool) → r ≡ bytes_eq xs ys → r ≡ same xs ys
+eq_same xs ys r e = e ∙ bytes_eq-same xs ys
