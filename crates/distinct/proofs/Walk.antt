@@ -5,6 +5,7 @@ use mathlib.Core.Path.{◌≡◌, refl, sym, ◌∙◌}
 use Prim.Native.Nat.{ℕ, suc, ◌-◌, ◌<◌}
 use native.Mathlib.Omega.{arith}
 use lib.ListN.{get_or}
+use Rattle.std.specs.Prelude.{Option, is_some}
 use Rattle.sheet_name.specs.Name.{hash_of}
 use Rattle.distinct.specs.Chain.{Reaches, here, there, name_of, has_name, Missed, Walked, met, missed, Table, Placed}
 use Rattle.sheet_name.proofs.Same.{same_equal}
@@ -14,13 +15,13 @@ reaches_positive here = omega arith
 reaches_positive (there r) = omega arith
 
 module _ (s starts next name : List ℕ) where
-  pub walked_missed : {from r : ℕ} → Walked s starts next name from r → r ≡ 0 → Missed s starts next name from
-  walked_missed (met l h) e = absurd (omega arith)
+  pub walked_missed : {from : ℕ} {r : Option ℕ} → Walked s starts next name from r → is_some r ≡ false → Missed s starts next name from
+  walked_missed (met l h) e = cc
   walked_missed (missed m) e = m
 
-  pub walked_met : {from r : ℕ} → Walked s starts next name from r → (r ≡ 0 → ⊥) → (j : ℕ) × (j < from) × (has_name s starts name j ≡ true)
+  pub walked_met : {from : ℕ} {r : Option ℕ} → Walked s starts next name from r → is_some r ≡ true → (j : ℕ) × (j < from) × (has_name s starts name j ≡ true)
   walked_met (met {j} l h) e = (j, l, h)
-  walked_met (missed m) e = absurd (e refl)
+  walked_met (missed m) e = cc
 
   pub missed_none : Missed s starts next name 0
   missed_none j r = absurd (omega (arith, reaches_positive r))
@@ -42,12 +43,12 @@ module _ (s starts heads next : List ℕ) (n : ℕ) (t : Table s starts heads ne
       go false e = refl
       go true e = sym e ∙ m j (rw (← same_equal (name_of s starts j) name e) (t.linked j l))
 
-  pub placed : {r : ℕ} → Walked s starts next name (get_or heads (hash_of name) 0) r → Placed s starts n name r
+  pub placed : {r : Option ℕ} → Walked s starts next name (get_or heads (hash_of name) 0) r → Placed s starts n name r
   placed (met {j} l h) =
       record {
         found = λ i e.
-            let q : i ≡ j = omega arith in
+            let q : i ≡ j = cc in
             rw q (omega (arith, t.low (hash_of name)), h);
-        absent = λ z. absurd (omega arith);
+        absent = λ z. cc;
       }
-  placed (missed m) = record { found = λ i e. absurd (omega arith); absent = λ z. not_there m }
+  placed (missed m) = record { found = λ i e. cc; absent = λ z. not_there m }

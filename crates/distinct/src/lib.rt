@@ -1,90 +1,74 @@
-// The names of a sheet's records by chained hashing in two lent arrays: whether they are all different, and which record has a name.
+// The names of a sheet's records by chained hashing: whether they are all different, and which record has a name.
 // The time is near linear for names that spread over the chains, and grows with the square of the count where a sheet is made so that all
 // of its names fall into one chain.
 #![tactic(auto)]
 
-ghost use Rattle.std.specs.Prelude.{◌≡◌, false, ℕ, ◌<◌, ◌≤◌, length, take};
+ghost use Rattle.std.specs.Prelude.{◌≡◌, false, ℕ, ◌≤◌, take};
 ghost use Rattle.distinct.specs.Distinct.{NamesFit, repeats};
-ghost use Rattle.distinct.specs.Chain.{NoLinks, Falling, Walked, Table, Placed};
+ghost use Rattle.distinct.specs.Chain.{Blank, Falling, Walked, Table, Placed};
 
-fn wide16(x: u16) -> usize
-    ensures { (result ≡ x) × (result < 65536) }
-{
-    x as usize
+// The places of the records' length bytes, at most 3,448, and a table of their names: for each chain the link to its last record, and for
+// each record the link to the one before it. Record j has the link j + 1; the link 0 ends a chain.
+#[derive(Drop)]
+pub struct Index {
+    pub starts: [u16; 3449],
+    pub heads: [u16; 4096],
+    pub next: [u16; 3449],
 }
 
-// Heads of chains that are all empty.
-pub fn no_heads() -> [u16; 4096]
-    ensures { NoLinks 4096 result }
-{
-    [0u16; 4096]
-}
-
-// A 0 for each record that fits into a sheet, at most 3,448: links that all end their chain, or places that are not known yet.
-pub fn no_links() -> [u16; 3449]
-    ensures { NoLinks 3449 result }
-{
-    [0u16; 3449]
-}
-
-// The link to the record that has a name, on the way from a link; 0 where there is none.
-fn in_chain(s: &[u8], starts: &[u16; 3449], next: &[u16; 3449], from: u16, name: &[u8]) -> usize
-    requires { (from ≤ 3449) × NamesFit s.now starts.now from × Falling next.now }
-    ensures { Walked s.now starts.now next.now name.now from result }
-{
-    let mut k = wide16(from);
-    while 0 < k {
-        let j = k - 1;
-        let a = wide16(starts[j]);
-        if sheet_name::has_name(s, a, name) {
-            return k;
+impl Index {
+    // No places, and chains that are all empty.
+    pub fn blank() -> Self
+        ensures { Blank result }
+    {
+        Index {
+            starts: [0; 3449],
+            heads: [0; 4096],
+            next: [0; 3449],
         }
-        k = wide16(next[j]);
     }
-    0
-}
 
-// Whether two of the first n records have the same name; `starts` holds the places of their length bytes. Where they all differ, the
-// lent arrays become a table of them.
-// An array parameter does not tell the proof how long its list is, so the caller says it.
-pub fn repeats(
-    s: &[u8],
-    starts: &[u16; 3449],
-    n: usize,
-    heads: &mut [u16; 4096],
-    next: &mut [u16; 3449],
-) -> bool
-    requires { (n ≤ 3449) × NamesFit s.now starts.now n × (length starts.now ≡ 3449) × NoLinks 4096 heads.old × NoLinks 3449 next.old }
-    ensures value { result ≡ repeats s.now (take n starts.now) }
-    ensures table { result ≡ false → Table s.now starts.now heads.new next.new n }
-{
-    let mut i: usize = 0;
-    while i < n {
-        let p = wide16(starts[i]);
-        let name = sheet_name::name_at(s, p);
-        let h = sheet_name::hash_of(name);
-        let first = heads[h];
-        if in_chain(s, starts, next, first, name) != 0 {
-            return true;
+    // The record that has a name, on the way from a link.
+    fn in_chain(&self, s: &[u8], from: u16, name: &[u8]) -> Option<usize>
+        requires { (from ≤ 3449) × NamesFit s.now self.now.starts from × Falling self.now.next }
+        ensures { Walked s.now self.now.starts self.now.next name.now from result }
+    {
+        let mut link = usize::from(from);
+        while 0 < link {
+            let j = link - 1;
+            if sheet_name::has_name(s, usize::from(self.starts[j]), name) {
+                return Some(j);
+            }
+            link = usize::from(self.next[j]);
         }
-        next[i] = first;
-        heads[h] = i as u16 + 1;
-        i += 1;
+        None
     }
-    false
-}
 
-// The number j + 1 of the record that has a name, by a table of records; 0 where none of them has it.
-pub fn place_of(
-    s: &[u8],
-    starts: &[u16; 3449],
-    heads: &[u16; 4096],
-    next: &[u16; 3449],
-    name: &[u8],
-) -> usize
-    requires { (n : ℕ) × Table s.now starts.now heads.now next.now n }
-    ensures { (n : ℕ) → Table s.now starts.now heads.now next.now n → Placed s.now starts.now n name.now result }
-{
-    let h = sheet_name::hash_of(name);
-    in_chain(s, starts, next, heads[h], name)
+    // Whether two of the first n records have the same name. Where they all differ, their table is made.
+    pub fn repeats(&mut self, s: &[u8], n: usize) -> bool
+        requires { (n ≤ 3449) × NamesFit s.now self.old.starts n × Blank self.old }
+        ensures value { result ≡ repeats s.now (take n self.old.starts) }
+        ensures starts { self.new.starts ≡ self.old.starts }
+        ensures table { result ≡ false → Table s.now self.new.starts self.new.heads self.new.next n }
+    {
+        for i in 0..n {
+            let name = sheet_name::name_at(s, usize::from(self.starts[i]));
+            let h = sheet_name::hash_of(name);
+            let first = self.heads[h];
+            if self.in_chain(s, first, name).is_some() {
+                return true;
+            }
+            self.next[i] = first;
+            self.heads[h] = i as u16 + 1;
+        }
+        false
+    }
+
+    // The record that has a name, by the table.
+    pub fn place_of(&self, s: &[u8], name: &[u8]) -> Option<usize>
+        requires { (n : ℕ) × Table s.now self.now.starts self.now.heads self.now.next n }
+        ensures { (n : ℕ) → Table s.now self.now.starts self.now.heads self.now.next n → Placed s.now self.now.starts n name.now result }
+    {
+        self.in_chain(s, self.heads[sheet_name::hash_of(name)], name)
+    }
 }
