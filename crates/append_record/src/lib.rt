@@ -6,37 +6,18 @@ ghost use Rattle.octets.specs.Bytes.{number_at, bytes_of};
 ghost use Rattle.octets.specs.Room.{text, written, put_at};
 ghost use Rattle.append_record.specs.Grown.{new_record, grown};
 
-// Writes the k lowest bytes of a number to a place of a room, high byte first, and gives the place behind them.
-fn put_number(n: u64, k: usize, out: &mut [u8], at: usize) -> usize
-    requires { at + k ≤ length out.old }
-    ensures value { result ≡ at + k }
-    ensures out_after { out.new ≡ put_at out.old at (bytes_of k n) }
-{
-    let mut rest = n;
-    let mut i = k;
-    while 0 < i {
-        i -= 1;
-        out[at + i] = (rest % 256) as u8;
-        rest = rest / 256;
-    }
-    at + k
-}
-
 // Writes a record with an empty remark to a place of a room, and gives the place behind it.
 fn put_record(name: &[u8], kind: u8, first: u64, second: u64, out: &mut [u8], at: usize) -> usize
     requires { (length name.now < 256) × (at + (length name.now + 19) ≤ length out.old) }
     ensures value { result ≡ at + length (new_record name.now kind first second) }
     ensures out_after { out.new ≡ put_at out.old at (new_record name.now kind first second) }
 {
-    let long = [name.len() as u8];
-    let named = octets::append(&long, out, at);
+    let named = octets::append(&[name.len() as u8], out, at);
     let kinded = octets::append(name, out, named);
-    let known = [kind];
-    let valued = octets::append(&known, out, kinded);
-    let dense = put_number(first, 8, out, valued);
-    let remarked = put_number(second, 8, out, dense);
-    let empty = [0u8; 1];
-    octets::append(&empty, out, remarked)
+    let valued = octets::append(&[kind], out, kinded);
+    let dense = octets::append(&first.to_be_bytes(), out, valued);
+    let remarked = octets::append(&second.to_be_bytes(), out, dense);
+    octets::append(&[0], out, remarked)
 }
 
 // Writes a sheet with one record more to a room that has space for it.
@@ -46,7 +27,7 @@ pub fn put_grown(s: &[u8], name: &[u8], kind: u8, first: u64, second: u64, out: 
 {
     let raised = sheet_record::number(s, 5, 2) + 1;
     let counted = octets::append(&s[..5], out, 0);
-    let kept = put_number(raised, 2, out, counted);
+    let kept = octets::append(&raised.to_be_bytes()[6..], out, counted);
     let end = octets::append(&s[7..], out, kept);
     put_record(name, kind, first, second, out, end);
 }
