@@ -6,7 +6,7 @@ use lib.Dec.{T, lit≤}
 use Rattle.fraction.proofs.Order.{within_more}
 use Rattle.air.specs.declared.Logs.{Logs}
 use Rattle.air.specs.declared.Edges.TheVariants.{Unfitted}
-use Rattle.air.specs.declared.Ends.TheVariants.{Unjoined}
+use Rattle.std.specs.Prelude.{None}
 use Rattle.air.specs.Held.{Held, judges, shows}
 use Rattle.air_entropy.specs.Entropy.{letter_s, IsEntropy, entropy_in, entropy_of, beyond_entropy}
 use Rattle.air_entropy.specs.Claim.{EntropyClaim}
@@ -23,7 +23,7 @@ entropy_claim e d h ok it = go (beyond_entropy l) refl it.is
     l : Logs
     l = it.logs
 
-    go : (a : Bool) → beyond_entropy l ≡ a → h ≡ cond a (judges 12 letter_s l Unfitted) (shows letter_s l Unfitted Unjoined (entropy_of l.y l.z)) → EntropyClaim e d h
+    go : (a : Bool) → beyond_entropy l ≡ a → h ≡ cond a (judges 12 letter_s l Unfitted) (shows letter_s l Unfitted None (entropy_of l.y l.z)) → EntropyClaim e d h
     go true e₁ is = absurd (no_true e₁ (subst (λ (x : Held). T (not (refuses_logs entropy_property x.logs))) is ok.by_logs_lem))
     go false e₁ is =
         subst (EntropyClaim e d) (sym is)

@@ -1,6 +1,7 @@
 -- The entropy is within 3 of the exact one: within 2 outside the strips and at a strip's edges, and the straight line adds less than 1.
 use mathlib.Core.Bool.{Bool, true, false, cond, not}
 use mathlib.Core.List.{List}
+use Rattle.std.specs.Prelude.{Option, Some, None}
 use mathlib.Core.Path.{◌≡◌, refl, sym, ap, ◌∙◌, subst₂}
 use Prim.Native.Nat.{ℕ, ◌+◌, ◌-◌, ◌*◌, ◌^◌, ◌≤◌, ◌<◌}
 use native.Mathlib.Omega.{arith}
@@ -11,14 +12,12 @@ use Rattle.integer.specs.Z.{up, dn, zs, v, ≤→, <→, →≤, ≡-by}
 use Rattle.integer.specs.Laws.{≤ℤ-trans}
 use Rattle.fraction.specs.Fraction.{Within, whole, parts, plus, minus, times, over}
 use Rattle.bicubic.specs.Bicubic.{bicubic}
-use Rattle.proportion.specs.Straight.{straight}
 use Rattle.bicubic.specs.Exact.{exactly, exact_bicubic}
 use Rattle.bicubic.proofs.Near.{near_whole, near_plus, near_more, near_down, near_scaled, stands, bicubic_near, near_straight}
 use Rattle.bands.specs.declared.Band.{Band}
 use Rattle.bands.specs.declared.Band.TheVariants.{Low, Middle, High}
 use Rattle.bands.specs.declared.Strip.{Strip}
-use Rattle.bands.specs.declared.Strip.TheVariants.{Clear, Between}
-use Rattle.bands.specs.Bands.{band_of, low_edge, high_edge, inside, pick_strip, strip_of}
+use Rattle.bands.specs.Bands.{band_of, low_edge, high_edge, inside, around, strip_of}
 use Rattle.tgas2_entropy.specs.Entropy.{entropy_coefficients, entropy_limit}
 use Rattle.perfect.specs.Perfect.{R}
 use Rattle.air_entropy.specs.Entropy.{rise, perfect_entropy, fitted_entropy, entropy_at, entropy_of, above_limit}
@@ -58,9 +57,11 @@ lt_le h = →≤ (omega (arith, <→ h))
 sub_pos : (p q : ℤ) → p ≤ℤ q → q -ℤ p ≡ pos ((up q + dn p) - (up p + dn q))
 sub_pos p q h = let vp = v p in let vq = v q in ≡-by (search zs) (omega (arith, ≤→ h))
 
-on_line : (p q y z : ℤ) → p <ℤ y → y <ℤ q → nat_abs p ≤ 7000000 → nat_abs q ≤ 7000000 → nat_abs z ≤ 4000000
-    → Within 3 (straight p q (entropy_at p z) (entropy_at q z) y) (exact_joined (Between p q) (λ v. exact_entropy_at v z) y)
-on_line p q y z h k hp hq hz =
+on_line : (s : Strip) (y z : ℤ) → s.low <ℤ y → y <ℤ s.high → nat_abs s.low ≤ 7000000 → nat_abs s.high ≤ 7000000 → nat_abs z ≤ 4000000
+    → Within 3 (joined (Some s) (λ v. entropy_at v z) y) (exact_joined (Some s) (λ v. exact_entropy_at v z) y)
+on_line s y z h k hp hq hz =
+    let p : ℤ = s.low in
+    let q : ℤ = s.high in
     let u : ℕ = (up y + dn p) - (up p + dn y) in
     let e : ℕ = (up q + dn y) - (up y + dn q) in
     let i : up p + dn y < up y + dn p = <→ h in
@@ -81,12 +82,12 @@ z_small : (y z : ℤ) → neg_ℤ (pos 1000000) ≤ℤ z → T (not (above_limit
 z_small y z h t = abs_of 999999 3690000 z h (limit_most (band_of y) z t) 4000000 (lit≤ tt) (lit≤ tt)
 
 in_strip : (c : ℤ) (w : ℕ) (y z : ℤ) → nat_abs (c -ℤ pos w) ≤ 7000000 → nat_abs (c +ℤ pos w) ≤ 7000000 → neg_ℤ (pos 1000000) ≤ℤ z
-    → inside c w y ≡ true → T (not (any_place (Between (c -ℤ pos w) (c +ℤ pos w)) (λ v. above_limit v z) y))
-    → Within 3 (joined (Between (c -ℤ pos w) (c +ℤ pos w)) (λ v. entropy_at v z) y) (exact_joined (Between (c -ℤ pos w) (c +ℤ pos w)) (λ v. exact_entropy_at v z) y)
+    → inside c w y ≡ true → T (not (any_place (Some (around c w)) (λ v. above_limit v z) y))
+    → Within 3 (joined (Some (around c w)) (λ v. entropy_at v z) y) (exact_joined (Some (around c w)) (λ v. exact_entropy_at v z) y)
 in_strip c w y z hp hq hz e t =
     let p : ℤ = c -ℤ pos w in
     let q : ℤ = c +ℤ pos w in
-    on_line p q y z (lt_z_yes (and_left (lt_z p y) (lt_z y q) (is_true e))) (lt_z_yes (and_right (lt_z p y) (lt_z y q) (is_true e))) hp hq
+    on_line (around c w) y z (lt_z_yes (and_left (lt_z p y) (lt_z y q) (is_true e))) (lt_z_yes (and_right (lt_z p y) (lt_z y q) (is_true e))) hp hq
     (z_small p z hz (not_left (above_limit p z) (above_limit q z) t))
 
 -- where the carried logarithms of an accepted entropy lie
@@ -102,8 +103,8 @@ entropy_near y z box = go (inside low_edge 25000 y) (inside high_edge 5000 y) re
     y_small : nat_abs y ≤ 7000000
     y_small = abs_of 6999999 3000000 y box.density.least box.density.most 7000000 (lit≤ tt) (lit≤ tt)
 
-    strip : Bool → Bool → Strip
-    strip p q = pick_strip p (Between (low_edge -ℤ pos 25000) (low_edge +ℤ pos 25000)) (pick_strip q (Between (high_edge -ℤ pos 5000) (high_edge +ℤ pos 5000)) Clear)
+    strip : Bool → Bool → Option Strip
+    strip p q = cond p (Some (around low_edge 25000)) (cond q (Some (around high_edge 5000)) None)
 
     go : (p q : Bool) → inside low_edge 25000 y ≡ p → inside high_edge 5000 y ≡ q → T (not (any_place (strip p q) (λ v. above_limit v z) y)) → Within 3 (joined (strip p q) (λ v. entropy_at v z) y) (exact_joined (strip p q) (λ v. exact_entropy_at v z) y)
     go true q e₁ e₂ t = in_strip low_edge 25000 y z (lit≤ tt) (lit≤ tt) box.least e₁ t

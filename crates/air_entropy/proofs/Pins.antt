@@ -9,7 +9,7 @@ use Rattle.logarithm.specs.Choice.{factors, factor_logs, points, rises, chord_of
 use Rattle.bicubic.specs.Bicubic.{gas1, gas2, gas3, gas4, bicubic}
 use Rattle.tgas2_entropy.specs.Entropy.{entropy_coefficients}
 use Rattle.air.specs.declared.Edges.TheVariants.{Unfitted}
-use Rattle.air.specs.declared.Ends.TheVariants.{Unjoined}
+use Rattle.std.specs.Prelude.{None}
 use Rattle.air.specs.Held.{shows}
 use Rattle.air.specs.Choices.{chosen}
 use Rattle.air.specs.Property.{held_by}
@@ -22,7 +22,7 @@ use Rattle.air_entropy.specs.Property.{entropy_property}
 use Rattle.air_entropy.specs.Claim.{entropy_distance}
 
 -- Y = -4,500,000, Z = 2,500,000
-pub joined : held_by chosen (some entropy_property) 24794913169 4085663 ≡ shows letter_s (pair (neg_ℤ (pos 4500000)) (pos 2500000)) Unfitted Unjoined (pos 174563002)
+pub joined : held_by chosen (some entropy_property) 24794913169 4085663 ≡ shows letter_s (pair (neg_ℤ (pos 4500000)) (pos 2500000)) Unfitted None (pos 174563002)
 unfolding log_of lg_of mantissa_of near_one chord_of factors factor_logs points rises count_leading_zeros entropy_in entropy_at fitted_entropy bicubic gas1 gas2 gas3 gas4 mul entropy_coefficients
 joined = refl
 

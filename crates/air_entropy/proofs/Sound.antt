@@ -6,7 +6,7 @@ use native.Mathlib.Omega.{arith}
 use lib.Dec.{T}
 use Rattle.air.specs.declared.Logs.{Logs}
 use Rattle.air.specs.declared.Edges.TheVariants.{Unfitted}
-use Rattle.air.specs.declared.Ends.TheVariants.{Unjoined}
+use Rattle.std.specs.Prelude.{None}
 use Rattle.air.specs.Quantities.{is_density, is_energy}
 use Rattle.air.specs.Held.{Held, judges, shows}
 use Rattle.air_entropy.specs.Entropy.{letter_s, IsEntropy, entropy_in, entropy_of, beyond_entropy, entropy_from}
@@ -27,7 +27,7 @@ entropy_unrefused e d h it zero = go (beyond_entropy l) refl it.is
     l : Logs
     l = it.logs
 
-    go : (a : Bool) → beyond_entropy l ≡ a → h ≡ cond a (judges 12 letter_s l Unfitted) (shows letter_s l Unfitted Unjoined (entropy_of l.y l.z)) → Unrefused entropy_property h
+    go : (a : Bool) → beyond_entropy l ≡ a → h ≡ cond a (judges 12 letter_s l Unfitted) (shows letter_s l Unfitted None (entropy_of l.y l.z)) → Unrefused entropy_property h
     go true e₁ is = let twelve : ◌≡◌ {A = ℕ} 12 0 = sym (ap (λ (i : Held). i.number) is) ∙ zero in absurd (omega (arith, twelve))
     go false e₁ is = subst (Unrefused entropy_property) (sym is) (record { by_logs_lem = is_false e₁; by_fit_lem = unfitted })
 

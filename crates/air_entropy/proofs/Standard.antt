@@ -1,5 +1,5 @@
 -- Entropies at D0 and at E0 times a power of ten, for every choice of the free answers.
-use mathlib.Core.Bool.{false}
+use Rattle.std.specs.Prelude.{None}
 use mathlib.Core.Option.{some}
 use mathlib.Core.Path.{◌≡◌, refl, ap, ◌∙◌}
 use Prim.Native.Nat.{ℕ, ◌*◌, ◌^◌}
@@ -13,14 +13,14 @@ use Rattle.air.specs.Quantities.{D0, E0}
 use Rattle.air.specs.Held.{Held}
 use Rattle.air_entropy.specs.Entropy.{IsEntropy, entropy_in, entropy_from, entropy_at, perfect_entropy, fitted_entropy}
 
-logs_are : (z : ℕ) (l : Logs) → l.triple ≡ false → l.y ≡ pos 0 → l.z ≡ pos z → l.x ≡ pos 0 → l ≡ record { triple = false; x = pos 0; y = pos 0; z = pos z }
-logs_are z l t y e x = λ i. record { triple = t i; x = x i; y = y i; z = e i }
+logs_are : (z : ℕ) (l : Logs) → l.x ≡ None → l.y ≡ pos 0 → l.z ≡ pos z → l ≡ record { x = None; y = pos 0; z = pos z }
+logs_are z l x y e = λ i. record { x = x i; y = y i; z = e i }
 
 -- at E0 times ten to the k
 entropy_row : (k : ℕ) (v : ℤ) (h : Held) → IsEntropy (E0 * 10 ^ k) D0 h
-    → (entropy_from (record { triple = false; x = pos 0; y = pos 0; z = pos (k * 1000000) })).value ≡ some v → h.value ≡ some v
+    → (entropy_from (record { x = None; y = pos 0; z = pos (k * 1000000) })).value ≡ some v → h.value ≡ some v
 entropy_row k v h t e =
-    let same = logs_are (k * 1000000) t.logs t.taken.triple (exact_power D0 0 t.logs.y t.taken.y) (exact_power E0 k t.logs.z t.taken.z) t.taken.x in
+    let same = logs_are (k * 1000000) t.logs t.taken.x (exact_power D0 0 t.logs.y t.taken.y) (exact_power E0 k t.logs.z t.taken.z) in
     ap (λ (g : Held). g.value) t.is ∙ ap (λ (l : Logs). (entropy_from l).value) same ∙ e
 
 pub standard_value : (h : Held) → IsEntropy E0 D0 h → h.value ≡ some (pos 61182203)

@@ -1,5 +1,5 @@
 -- Document 01, Entropy: what an answer for an energy and a density holds. s is in units of 0.0001 J/(kg K).
-use Rattle.std.specs.Prelude.{Bool, cond, ◌≡◌, ℕ, ◌*◌, ◌^◌, ℤ, pos, ◌+ℤ◌, ◌-ℤ◌, ◌*ℤ◌}
+use Rattle.std.specs.Prelude.{Bool, cond, ◌≡◌, Option, None, ℕ, ◌*◌, ◌^◌, ℤ, pos, ◌+ℤ◌, ◌-ℤ◌, ◌*ℤ◌}
 use Rattle.std.specs.Int.Signed.{le_z, lt_z, shr_z}
 use Rattle.bicubic.specs.Bicubic.{bicubic}
 use Rattle.bands.specs.declared.Strip.{Strip}
@@ -8,7 +8,6 @@ use Rattle.tgas2_entropy.specs.Entropy.{entropy_coefficients, entropy_limit}
 use Rattle.perfect.specs.Perfect.{R}
 use Rattle.air.specs.declared.Logs.{Logs}
 use Rattle.air.specs.declared.Edges.TheVariants.{Unfitted}
-use Rattle.air.specs.declared.Ends.TheVariants.{Unjoined}
 use Rattle.air.specs.Held.{Held, judges, shows}
 use Rattle.air.specs.Join.{joined, any_place}
 use Rattle.air.specs.Carried.{EnergyLogs}
@@ -46,10 +45,10 @@ abbrev pub beyond_entropy : Logs → Bool
 beyond_entropy l = any_place (strip_of l.y) (λ v. above_limit v l.z) l.y
 
 -- the steps in order, from the logarithms
-unfoldable pub entropy_in : Strip → Logs → Held
+unfoldable pub entropy_in : Option Strip → Logs → Held
 entropy_in s l =
     cond (any_place s (λ v. above_limit v l.z) l.y) (judges 12 letter_s l Unfitted)
-    (shows letter_s l Unfitted Unjoined (joined s (λ v. entropy_at v l.z) l.y))
+    (shows letter_s l Unfitted None (joined s (λ v. entropy_at v l.z) l.y))
 
 abbrev pub entropy_from : Logs → Held
 entropy_from l = entropy_in (strip_of l.y) l

@@ -1,5 +1,6 @@
 -- Every temperature that may be held for an accepted state meets demand 3's claim.
-use mathlib.Core.Bool.{Bool, true, false}
+use mathlib.Core.Bool.{Bool, true, false, cond}
+use Rattle.std.specs.Prelude.{None}
 use mathlib.Core.Path.{◌≡◌, refl, sym, ap, subst, ◌∙◌}
 use Prim.Native.Nat.{ℕ, ◌≤◌}
 use native.Mathlib.Omega.{arith}
@@ -7,13 +8,12 @@ use lib.Dec.{T}
 use lib.IntN.{ℤ, pos, neg_ℤ}
 use lib.Signed.{lt_z, le_z_yes, lt_z_no, clash_ℤ}
 use Rattle.bands.specs.Bands.{band_of, strip_of}
-use Rattle.bands.specs.Region.{temperature_index, region_of, pick_region, beyond_window, is_perfect}
+use Rattle.bands.specs.Region.{temperature_index, region_of, beyond_window, is_perfect}
 use Rattle.bands.specs.declared.Region.{Region}
 use Rattle.bands.specs.declared.Region.TheVariants.{Refused, Perfect, Fitted}
 use Rattle.perfect.specs.Perfect.{perfect_gas}
 use Rattle.air.specs.declared.Logs.{Logs}
 use Rattle.air.specs.declared.Edges.TheVariants.{Unfitted}
-use Rattle.air.specs.declared.Ends.TheVariants.{Unjoined}
 use Rattle.air.specs.Quantities.{is_density}
 use Rattle.air.specs.Held.{Held, shows}
 use Rattle.air.specs.Places.{value_at, IsFit}
@@ -35,7 +35,7 @@ judged : (l : Logs) → beyond_window l.z ≡ false → Judges temperature_prope
 judged l e = record { by_logs_lem = λ t. no_place (strip_of l.y) l.y; by_fit_lem = λ e t. t; logs_alone = λ t. is_false e; fit_alone = λ e t. t }
 
 module _ (n : ℕ) (n-least : 128 ≤ n) (p d : ℕ) (in-density : T (is_density d)) (l : Logs) (taken : PressureLogs p d l) where
-  perfect_claim : is_perfect l.z ≡ true → TemperatureClaim n p d (shows letter_t l Unfitted Unjoined (pos (perfect_gas p d)))
+  perfect_claim : is_perfect l.z ≡ true → TemperatureClaim n p d (shows letter_t l Unfitted None (pos (perfect_gas p d)))
   perfect_claim e =
       record {
         logs = l;
@@ -81,7 +81,7 @@ module _ (n : ℕ) (n-least : 128 ≤ n) (p d : ℕ) (in-density : T (is_density
   from_logs h ok is = go (beyond_window l.z) (is_perfect l.z) refl refl is
     where
       at : Bool → Bool → Region
-      at a b = pick_region a Refused (pick_region b Perfect (Fitted (band_of l.y) (temperature_index (band_of l.y) l.z)))
+      at a b = cond a Refused (cond b Perfect (Fitted (band_of l.y) (temperature_index (band_of l.y) l.z)))
 
       go : (a b : Bool) → beyond_window l.z ≡ a → is_perfect l.z ≡ b → IsTemperatureIn (at a b) p d l h → TemperatureClaim n p d h
       go true b e₁ e₂ s = absurd (inside p d l h ok e₁ s)
@@ -99,7 +99,7 @@ temperature_unrefused p d h it zero = go (beyond_window l.z) (is_perfect l.z) re
     l = it.logs
 
     at : Bool → Bool → Region
-    at a b = pick_region a Refused (pick_region b Perfect (Fitted (band_of l.y) (temperature_index (band_of l.y) l.z)))
+    at a b = cond a Refused (cond b Perfect (Fitted (band_of l.y) (temperature_index (band_of l.y) l.z)))
 
     go : (a b : Bool) → beyond_window l.z ≡ a → is_perfect l.z ≡ b → IsTemperatureIn (at a b) p d l h → Unrefused temperature_property h
     go true b e₁ e₂ s = let twelve : ◌≡◌ {A = ℕ} 12 0 = sym (ap (λ (i : Held). i.number) s) ∙ zero in absurd (omega (arith, twelve))

@@ -1,5 +1,5 @@
 -- What choices make of a pressure and a density, and temperature as a property.
-use Rattle.std.specs.Prelude.{ℕ, ℤ, pos, nat_abs}
+use Rattle.std.specs.Prelude.{None, ℕ, ℤ, pos, nat_abs}
 use Rattle.bands.specs.Bands.{strip_of}
 use Rattle.bands.specs.declared.Region.{Region}
 use Rattle.bands.specs.declared.Region.TheVariants.{Refused, Perfect, Fitted}
@@ -7,7 +7,6 @@ use Rattle.bands.specs.Region.{region_of, beyond_window}
 use Rattle.perfect.specs.Perfect.{perfect_gas}
 use Rattle.air.specs.declared.Logs.{Logs}
 use Rattle.air.specs.declared.Edges.TheVariants.{Unfitted}
-use Rattle.air.specs.declared.Ends.TheVariants.{Unjoined}
 use Rattle.air.specs.Quantities.{is_pressure, is_density}
 use Rattle.air.specs.Held.{Held, judges, shows}
 use Rattle.air.specs.Places.{fitted_by}
@@ -23,7 +22,7 @@ kelvin_by c g = pos (c.power (nat_abs (whole_millionths g)))
 
 abbrev pub temperature_at : Choices → Region → ℕ → ℕ → Logs → Held
 temperature_at c Refused p d l = judges 12 letter_t l Unfitted
-temperature_at c Perfect p d l = shows letter_t l Unfitted Unjoined (pos (perfect_gas p d))
+temperature_at c Perfect p d l = shows letter_t l Unfitted None (pos (perfect_gas p d))
 temperature_at c (Fitted b i) p d l = fitted_by c temperature_rule (kelvin_by c) (strip_of l.y) l
 
 unfoldable pub temperature_by : Choices → ℕ → ℕ → Logs → Held

@@ -1,5 +1,5 @@
 -- Document 01, Temperature, and request 1, its joins: what an answer for a pressure and a density holds.
-use Rattle.std.specs.Prelude.{Bool, false, ◌||◌, ◌≡◌, ℕ, ℤ, pos}
+use Rattle.std.specs.Prelude.{Bool, false, ◌||◌, ◌≡◌, None, ℕ, ℤ, pos}
 use Rattle.std.specs.Int.Signed.{lt_z, shr_z}
 use Rattle.power.specs.Power.{IsPower}
 use Rattle.fit.specs.Fit.{Piece}
@@ -12,7 +12,6 @@ use Rattle.bands.specs.declared.Region.TheVariants.{Refused, Perfect, Fitted}
 use Rattle.perfect.specs.Perfect.{perfect_gas}
 use Rattle.air.specs.declared.Logs.{Logs}
 use Rattle.air.specs.declared.Edges.TheVariants.{Unfitted}
-use Rattle.air.specs.declared.Ends.TheVariants.{Unjoined}
 use Rattle.air.specs.Quantities.{T0}
 use Rattle.air.specs.Held.{Held, judges, shows}
 use Rattle.air.specs.Places.{Rule, IsFit}
@@ -56,7 +55,7 @@ temperature_rule =
 -- what may be held in a region: 12, the perfect gas, or the fit, which a strip joins
 abbrev pub IsTemperatureIn : Region → ℕ → ℕ → Logs → Held → Type 0
 IsTemperatureIn Refused p d l h = h ≡ judges 12 letter_t l Unfitted
-IsTemperatureIn Perfect p d l h = h ≡ shows letter_t l Unfitted Unjoined (pos (perfect_gas p d))
+IsTemperatureIn Perfect p d l h = h ≡ shows letter_t l Unfitted None (pos (perfect_gas p d))
 IsTemperatureIn (Fitted b i) p d l h = IsFit temperature_rule (strip_of l.y) l h
 
 -- what may be held for a pressure and a density in range: free are the two logarithms, and the weights and temperatures of a fit

@@ -1,5 +1,4 @@
 -- States that demand 3 covers: what the choices make of them is allowed and accepted.
-use mathlib.Core.Bool.{true, false}
 use mathlib.Core.Path.{◌≡◌, refl, sym}
 use Prim.Native.Nat.{ℕ}
 use lib.Count.{count_leading_zeros}
@@ -14,7 +13,8 @@ use Rattle.air.specs.declared.Logs.{Logs}
 use Rattle.air.specs.declared.Edges.{Edges}
 use Rattle.air.specs.declared.Edges.TheVariants.{Unfitted, One}
 use Rattle.air.specs.declared.Ends.{Ends}
-use Rattle.air.specs.declared.Ends.TheVariants.{Unjoined}
+use Rattle.std.specs.Prelude as rust
+use Rattle.std.specs.Prelude.{None}
 use Rattle.air.specs.declared.Answer.{Answer}
 use Rattle.air.specs.declared.Answer.TheVariants.{Shows}
 use Rattle.air.specs.Quantities.{P0, D0, E0}
@@ -27,6 +27,7 @@ use Rattle.state.specs.State.{IsAnswer, answer_by, Accepted}
 use Rattle.air_temperature.specs.Property.{temperature_by}
 use Rattle.state.proofs.State.{allowed, not_refused_accepted}
 use Rattle.air.proofs.Lawful.{lawful}
+use Rattle.air.proofs.Pins.{edge, logs, pair}
 use Rattle.air_temperature.proofs.AtEdges.{at_edges}
 use Rattle.air_entropy.proofs.Pins.{joined}
 use Rattle.air_pressure.proofs.PressureAt.{pressure_at}
@@ -43,24 +44,24 @@ covered kind first second a e zero =
     record { answer = a; made = e; allowed_is = it; accepted = not_refused_accepted kind first second a it zero }
 
 -- a state of which it is computed elsewhere what the choices make of it
-shown : {kind first second letter : ℕ} {l : Logs} {e : Edges} {s : Ends} {v : ℤ} → answer_by chosen kind first second ≡ shows letter l e s v → Covered kind first second
+shown : {kind first second letter : ℕ} {l : Logs} {e : Edges} {s : rust.Option Ends} {v : ℤ} → answer_by chosen kind first second ≡ shows letter l e s v → Covered kind first second
 shown {kind} {first} {second} {letter} {l} {e} {s} {v} at = covered kind first second (Shows letter l e s v) (sym at) refl
 
 pub standard_temperature : Covered 1 P0 D0
 unfolding answer_by temperature_by log_of lg_of mantissa_of near_one chord_of factors factor_logs points rises count_leading_zeros perfect_gas
 standard_temperature =
-    covered 1 P0 D0 (Shows letter_t (record { triple = true; x = pos 0; y = pos 0; z = pos 0 }) Unfitted Unjoined (pos 273213936)) refl refl
+    covered 1 P0 D0 (Shows letter_t (logs (pos 0) (pos 0) (pos 0)) Unfitted None (pos 273213936)) refl refl
 
 pub standard_entropy : Covered 2 E0 D0
 unfolding answer_by log_of lg_of mantissa_of near_one chord_of factors factor_logs points rises count_leading_zeros entropy_in entropy_at perfect_entropy
 standard_entropy =
-    covered 2 E0 D0 (Shows letter_s (record { triple = false; x = pos 0; y = pos 0; z = pos 0 }) Unfitted Unjoined (pos 61182203)) refl refl
+    covered 2 E0 D0 (Shows letter_s (pair (pos 0) (pos 0)) Unfitted None (pos 61182203)) refl refl
 
 pub fitted_temperature : Covered 1 320433595305 D0
 unfolding answer_by temperature_by held_at log_of lg_of mantissa_of near_one chord_of factors factor_logs points rises count_leading_zeros bicubic gas1 gas2 gas3 gas4 mul high_pieces power_of step_of stride_of coarse middle fine
 fitted_temperature =
     covered 1 320433595305 D0
-    (Shows letter_t (record { triple = true; x = pos 500000; y = pos 0; z = pos 500000 }) (One (record { fit = pos 4961733650; weight = pos 0 })) Unjoined (pos 856197990)) refl refl
+    (Shows letter_t (logs (pos 500000) (pos 0) (pos 500000)) (One (edge (pos 4961733650) (pos 0))) None (pos 856197990)) refl refl
 
 pub joined_temperature : Covered 1 13083925 4190468
 unfolding answer_by

@@ -1,9 +1,10 @@
 -- What lawful choices make of a state is an answer that document 01 allows, and every answer that it allows for an accepted state meets demand 3's claims.
 use mathlib.Core.Path.{◌≡◌}
+use Rattle.std.specs.Prelude.{Option, Some, None}
 use Prim.Native.Nat.{ℕ, ◌≤◌}
 use Rattle.kind.specs.Kind.{kind_of}
 use Rattle.kind.specs.declared.Kind.{Kind}
-use Rattle.kind.specs.declared.Kind.TheVariants.{Temperature, Entropy, Pressure, Unknown}
+use Rattle.kind.specs.declared.Kind.TheVariants.{Temperature, Entropy, Pressure}
 use Rattle.air.specs.declared.Answer.{Answer}
 use Rattle.air.specs.Held.{held}
 use Rattle.state.specs.State.{property_of, IsAnswer, Accepted, Accurate, answer_by}
@@ -14,11 +15,11 @@ use Rattle.air_pressure.proofs.Sound.{pressure_sound}
 use Rattle.air_temperature.proofs.Sound.{temperature_sound}
 
 -- a row a kind
-sound : (k : Kind) → SoundAny (property_of k)
-sound Temperature = temperature_sound
-sound Entropy = entropy_sound
-sound Pressure = pressure_sound
-sound Unknown = tt
+sound : (k : Option Kind) → SoundAny (property_of k)
+sound (Some Temperature) = temperature_sound
+sound (Some Entropy) = entropy_sound
+sound (Some Pressure) = pressure_sound
+sound None = tt
 
 -- an answer that holds what the choices make is allowed
 pub allowed : (c : Choices) → Lawful c → (kind first second : ℕ) (a : Answer) → held a ≡ answer_by c kind first second → IsAnswer kind first second a

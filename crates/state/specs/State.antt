@@ -1,8 +1,9 @@
 -- Document 01, table, state row: the answer for a kind and two values of any size. A kind is a row; a later kind adds one.
 use Rattle.std.proofs.Math.Option.{Option, none, some}
-use Rattle.std.specs.Prelude.{ℕ}
+use Rattle.std.specs.Prelude as rust
+use Rattle.std.specs.Prelude.{ℕ, Some, None}
 use Rattle.kind.specs.declared.Kind.{Kind}
-use Rattle.kind.specs.declared.Kind.TheVariants.{Temperature, Entropy, Pressure, Unknown}
+use Rattle.kind.specs.declared.Kind.TheVariants.{Temperature, Entropy, Pressure}
 use Rattle.kind.specs.Kind.{kind_of}
 use Rattle.air.specs.declared.Answer.{Answer}
 use Rattle.air.specs.Held.{Held, held}
@@ -12,11 +13,11 @@ use Rattle.air_entropy.specs.Property.{entropy_property}
 use Rattle.air_pressure.specs.Property.{pressure_property}
 use Rattle.air_temperature.specs.Property.{temperature_property}
 
-abbrev pub property_of : Kind → Option Property
-property_of Temperature = some temperature_property
-property_of Entropy = some entropy_property
-property_of Pressure = some pressure_property
-property_of Unknown = none
+abbrev pub property_of : rust.Option Kind → Option Property
+property_of (Some Temperature) = some temperature_property
+property_of (Some Entropy) = some entropy_property
+property_of (Some Pressure) = some pressure_property
+property_of None = none
 
 -- an answer that document 01 allows for a state
 unfoldable pub IsAnswer : ℕ → ℕ → ℕ → Answer → Type 0
