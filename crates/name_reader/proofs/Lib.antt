@@ -1,4 +1,2 @@
-mod Pieces
-mod Loop
-mod Judged
-pub mod Answers
+mod Forms
+mod Kept
