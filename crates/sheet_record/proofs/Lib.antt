@@ -3,3 +3,4 @@ pub mod Places
 pub mod Tails
 pub mod Steps
 pub mod Local
+pub mod Checks

@@ -2,14 +2,15 @@
 use mathlib.Core.Bool.{true, false}
 use mathlib.Core.List.{List}
 use mathlib.Core.Path.{◌≡◌, refl, sym, subst}
-use Prim.Native.Nat.{ℕ, zero, suc, ◌≤◌}
+use Prim.Native.Nat.{ℕ, zero, suc, ◌+◌, ◌≤◌}
 use native.Mathlib.Omega.{arith}
 use borrow.Author.Tests.{eqb-true, eq-eqb, ne_eqb}
 use lib.Dec.{T, eqb}
-use lib.ListN.{length, drop}
-use Rattle.sheet_record.specs.Layout.{Layout}
-use Rattle.sheet_record.specs.Front.{front_of, fault_of, stands_at, end_at}
+use lib.ListN.{length, get_or, drop}
+use Rattle.sheet_record.specs.Layout.{Layout, layout_in}
+use Rattle.sheet_record.specs.Front.{Tailed, front_of, fault_of, behind, stands_at, end_at}
 use Rattle.sheet_record.proofs.Places.{Stands, stands}
+use Rattle.sheet_record.proofs.Tails.{tail_here}
 
 module _ (y : Layout) (s : List ℕ) (at : ℕ) where
   pub stands_none : (left : ℕ) → left ≡ 0 → stands_at y s at left ≡ false
@@ -44,3 +45,18 @@ module _ (y : Layout) (s : List ℕ) (at : ℕ) where
   unfolding stands_at
   stands_there zero e = absurd (subst T (sym e) tt)
   stands_there (suc left) e = stands y s at (eqb-true (fault_of (front_of y (drop at s))) 0 e)
+
+-- a record that stands at a place, and what follows its values, lie in the sheet, and the next place is behind both
+module _ (s : List ℕ) (at left : ℕ) (e : stands_at (layout_in s) s at left ≡ true) where
+  pub stands_fits : at + 18 + get_or s at 0 ≤ length s
+  stands_fits = let w = (stands_there (layout_in s) s at left e).sound in omega (arith, w.fits, w.len_is)
+
+  module _ (r : ℕ) (t : Tailed s (at + 18 + get_or s at 0) r) where
+    tail_stands : r ≡ (stands_there (layout_in s) s at left e).fields.tail
+    tail_stands = let p = stands_there (layout_in s) s at left e in tail_here s at p.fields p.sound t (omega (arith, p.sound.len_is))
+
+    pub past_stands : at + 18 + get_or s at 0 + r ≡ behind at (front_of (layout_in s) (drop at s))
+    past_stands = let p = stands_there (layout_in s) s at left e in rw p.is (omega (arith, p.sound.len_is, tail_stands))
+
+    pub past_fits : at + 18 + get_or s at 0 + r ≤ length s
+    past_fits = let w = (stands_there (layout_in s) s at left e).sound in omega (arith, w.fits, w.len_is, tail_stands)
