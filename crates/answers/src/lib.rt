@@ -1,110 +1,72 @@
-// How a property answers a state: ranges and logarithms of its two values, and the two ways in which it answers one whose values are in range.
+// What two values give before any property looks at them: their logarithms, or the refusal of one that is out of its range.
 #![tactic(auto)]
 
-ghost use Rattle.std.specs.Prelude.{◌≡◌};
-ghost use Rattle.air.specs.Quantities.{within};
-ghost use Rattle.air.specs.Held.{held, judges, shows};
-ghost use Rattle.answers.specs.Taken.{pressure_taken, energy_taken};
+ghost use Rattle.std.specs.Prelude.{◌≡◌, ◌<◌, ◌≤◌, IfOk, nat_abs};
+ghost use Rattle.refusal.specs.Numbered.{number_for, numbered};
+ghost use Rattle.answers.specs.Taken.{log_taken, pressure_taken, energy_taken};
 
-use air::{Answer, Edges, Ends, Logs};
+use air::Logs;
+use refusal::Refusal;
 
-// The ranges of the values, and the standards that their logarithms are over.
-const LEAST_PRESSURE: u64 = 1;
-
-const MOST_PRESSURE: u64 = 100000000000000000;
-
-const P0: u64 = 101330000000;
-
-const LEAST_DENSITY: u64 = 12920;
-
-const MOST_DENSITY: u64 = 129200000000000;
-
-const D0: u64 = 129200000000;
-
-const LEAST_ENERGY: u64 = 7840840;
-
-const MOST_ENERGY: u64 = 1000000000000;
-
-const E0: u64 = 78408400;
-
-// What two values give before any property looks at them: a refusal's number, or their logarithms.
+// A quantity's range, and the standard that its logarithm is over.
 #[derive(Clone, Copy)]
-pub enum Taken {
-    Beyond(u32),
-    Carried(Logs),
+struct Quantity {
+    least: u64,
+    most: u64,
+    standard: u64,
 }
 
-// Whether a number lies in a range.
-fn within(least: u64, most: u64, n: u64) -> bool
-    ensures { result ≡ within least most n }
-{
-    if n < least {
-        return false;
+const PRESSURE: Quantity = Quantity {
+    least: 1,
+    most: 100000000000000000,
+    standard: 101330000000,
+};
+
+const DENSITY: Quantity = Quantity {
+    least: 12920,
+    most: 129200000000000,
+    standard: 129200000000,
+};
+
+const ENERGY: Quantity = Quantity {
+    least: 7840840,
+    most: 1000000000000,
+    standard: 78408400,
+};
+
+impl Quantity {
+    // The logarithm of a value, or the refusal of one that is out of range.
+    #[tactic(auto, using(logarithm::proofs::Ratios::log_small))]
+    fn log(self, n: u64, refusal: Refusal) -> Result<i64, Refusal>
+        requires { (0 < self.least) × (0 < self.standard) }
+        ensures value { numbered result ≡ log_taken self.least self.most self.standard n (number_for refusal) }
+        ensures size { IfOk result (λ l. nat_abs l ≤ 20000000) }
+    {
+        if !(self.least..=self.most).contains(&n) {
+            return Err(refusal);
+        }
+        Ok(log10::log10_ratio(n, self.standard))
     }
-    n <= most
 }
 
 // The logarithms of a pressure and a density of any size.
-pub fn pressure_logs(p: u64, d: u64) -> Taken
-    ensures { result ≡ pressure_taken p d }
+pub fn pressure_logs(p: u64, d: u64) -> Result<Logs, Refusal>
+    ensures { numbered result ≡ pressure_taken p d }
 {
-    if !within(LEAST_PRESSURE, MOST_PRESSURE, p) {
-        return Taken::Beyond(10);
-    }
-    if !within(LEAST_DENSITY, MOST_DENSITY, d) {
-        return Taken::Beyond(11);
-    }
-    let x = log10::log10_ratio(p, P0);
-    let y = log10::log10_ratio(d, D0);
-    Taken::Carried(Logs {
-        triple: true,
-        x,
+    let x = PRESSURE.log(p, Refusal::FirstValue)?;
+    let y = DENSITY.log(d, Refusal::SecondValue)?;
+    Ok(Logs {
+        x: Some(x),
         y,
         z: x - y,
     })
 }
 
 // The logarithms of an energy and a density of any size.
-pub fn energy_logs(e: u64, d: u64) -> Taken
-    ensures { result ≡ energy_taken e d }
+pub fn energy_logs(e: u64, d: u64) -> Result<Logs, Refusal>
+    ensures { numbered result ≡ energy_taken e d }
 {
-    if !within(LEAST_ENERGY, MOST_ENERGY, e) {
-        return Taken::Beyond(10);
-    }
-    if !within(LEAST_DENSITY, MOST_DENSITY, d) {
-        return Taken::Beyond(11);
-    }
-    let y = log10::log10_ratio(d, D0);
-    let z = log10::log10_ratio(e, E0);
-    Taken::Carried(Logs {
-        triple: false,
-        x: 0,
-        y,
-        z,
-    })
-}
-
-// A refusal with what it was judged by.
-pub fn judged(letter: u8, number: u32, logs: Logs, edges: Edges) -> Answer
-    ensures { held result ≡ judges number letter logs edges }
-{
-    Answer::Judged {
-        letter,
-        number,
-        logs,
-        edges,
-    }
-}
-
-// A value.
-pub fn shown(letter: u8, logs: Logs, edges: Edges, ends: Ends, value: i64) -> Answer
-    ensures { held result ≡ shows letter logs edges ends value }
-{
-    Answer::Shows {
-        letter,
-        logs,
-        edges,
-        ends,
-        value,
-    }
+    let z = ENERGY.log(e, Refusal::FirstValue)?;
+    let y = DENSITY.log(d, Refusal::SecondValue)?;
+    Ok(Logs { x: None, y, z })
 }
