@@ -28,7 +28,7 @@ pub digit_value : (n : ℕ) → n < 16 → hex_value (hex_digit n) ≡ n
 unfolding hex_value
 digit_value n h = eqb-true (hex_value (hex_digit n)) n (along (λ m. eqb (hex_value (hex_digit m)) m) 0 16 tt n (omega arith) (omega arith))
 
-percent_reserved : unreserved 37 ≡ false
+pub percent_reserved : unreserved 37 ≡ false
 unfolding unreserved
 percent_reserved = refl
 
