@@ -1,99 +1,62 @@
--- The lines of the input, found one after the other.
--- Assumes nothing.
-use mathlib.Core.Bool.{Bool, cond}
-use mathlib.Core.List.{List, [], ◌∷◌, ◌++◌}
-use mathlib.Core.Path.{◌≡◌, refl, sym, ap, ◌∙◌}
-use Prim.Native.Nat.{ℕ, suc, ◌+◌, ◌-◌, ◌≤◌, ◌<◌}
-use native.Mathlib.Numerals.{add-one}
-use native.Mathlib.Omega.{arith}
-use borrow.Author.Tests.{eq-eqb, ne_eqb}
-use lib.Dec.{eqb}
-use lib.ListN.{length, get_or, drop, length-drop}
-use lib.Seq.{take-suc, drop-cons, get_or-drop, length-take-le}
-use Rattle.octets.specs.Bytes.{part}
-use Rattle.octets.proofs.Stores.{dropped}
+-- The first line of a list, up to its newline.
+use Rattle.std.proofs.Common.{◌≡◌, ℕ, suc, ◌+◌, ◌-◌, ◌≤◌, ◌<◌, Bool, true, false, cond, eqb, ltb, not, Option, Some, None, MatchOption, List, [], ◌∷◌, ◌++◌, length, take, drop, refl, sym, ap, ap₂, ◌∙◌, one-add, arith, length-drop, length-append, append_assoc, append-nil}
+use Rattle.std.specs.List.{position_or_len}
+use Rattle.std.proofs.lemmas.List.Sums.{prefix_len-le-length}
+use Rattle.std.proofs.Math.Seq.{drop-drop}
+use borrow.Author.Tests.{ltb-false}
 use Rattle.name_list.specs.Lines.{lines_from, lines_of, FirstLine}
 
-one_more : (before xs : List ℕ) (x : ℕ) → lines_from before (x ∷ xs) ≡ cond (eqb x 10) (before ∷ lines_from [] xs) (lines_from (before ++ (x ∷ [])) xs)
+abbrev pub is_newline : ℕ → Bool
+is_newline byte = eqb byte 10
+
+one_more : (before t : List ℕ) (x : ℕ) → lines_from before (x ∷ t) ≡ cond (eqb x 10) (before ∷ lines_from [] t) (lines_from (before ++ (x ∷ [])) t)
 unfolding lines_from
-one_more [] xs x = refl
-one_more (b ∷ bs) xs x = refl
+one_more [] t x = refl
+one_more (b ∷ bs) t x = refl
 
-last_one : (before : List ℕ) → 0 < length before → lines_from before [] ≡ before ∷ []
+-- what a line has so far, and what is left of the list
+first : (before t : List ℕ) → 0 < length before + length t
+    → lines_from before t ≡ (before ++ take (position_or_len is_newline t) t) ∷ lines_of (drop (suc (position_or_len is_newline t)) t)
 unfolding lines_from
-last_one [] h = let f : ⊥ = omega arith in absurd f
-last_one (b ∷ bs) h = refl
+first [] [] h = absurd (omega arith)
+first (b ∷ before) [] h = ap (λ (l : List ℕ). l ∷ []) (sym (append-nil (b ∷ before)))
+first before (x ∷ t) h = one_more before t x ∙ go (is_newline x) (first (before ++ (x ∷ [])) t (omega (arith, length-append before (x ∷ []))))
+  where
+    n : ℕ
+    n = position_or_len is_newline t
 
-no_lines : lines_of [] ≡ []
-unfolding lines_from
-no_lines = refl
+    go : (b : Bool)
+        → lines_from (before ++ (x ∷ [])) t ≡ ((before ++ (x ∷ [])) ++ take n t) ∷ lines_of (drop (suc n) t)
+        → cond b (before ∷ lines_from [] t) (lines_from (before ++ (x ∷ [])) t) ≡ (before ++ take (cond (not b) (1 + n) 0) (x ∷ t)) ∷ lines_of (drop (cond (not b) (1 + n) 0) t)
+    go true ih = ap (λ (l : List ℕ). l ∷ lines_of t) (sym (append-nil before))
+    go false ih = ih ∙ rw one-add (ap (λ (l : List ℕ). l ∷ lines_of (drop (suc n) t)) (append_assoc before (x ∷ []) (take n t)))
 
-pub none_left : (list : List ℕ) (start : ℕ) → length list ≤ start → lines_of (drop start list) ≡ []
-none_left list start h = ap lines_of (dropped start list h) ∙ no_lines
+pub first_line : (list : List ℕ) (start end : ℕ) → start < length list → end ≡ start + position_or_len is_newline (drop start list) → FirstLine list start end
+first_line list start end h e =
+    let t : List ℕ = drop start list in
+    let n : ℕ = position_or_len is_newline t in
+    let l : n ≤ length t = prefix_len-le-length (λ b. not (is_newline b)) t in
+    let k : n ≡ end - start = omega arith in
+    let d : drop (suc n) t ≡ drop (end + 1) list = drop-drop (suc n) start list ∙ ap (λ (i : ℕ). drop i list) (omega arith) in
+    record {
+      from = omega arith;
+      inside = omega (arith, length-drop start list);
+      first = first [] t (omega (arith, length-drop start list)) ∙ ap₂ (λ (i : ℕ) (r : List ℕ). take i t ∷ lines_of r) k d;
+    }
 
--- the line that starts at a place has no newline before `end`
-pub record Scanned (list : List ℕ) (start end : ℕ) : Type 0 where
-  pub from : start ≤ end
-  pub inside : end ≤ length list
-  pub rest : lines_of (drop start list) ≡ lines_from (part list start (end - start)) (drop end list)
+-- the line that a search for a newline finds
+pub found_line : (list : List ℕ) (start : ℕ) (found : Option ℕ)
+    → start < length list
+    → found ≡ cond (ltb (position_or_len is_newline (drop start list)) (length (drop start list))) (Some (position_or_len is_newline (drop start list))) None
+    → MatchOption found (FirstLine list start (length list)) (λ i. FirstLine list start (start + i))
+found_line list start found h e = go (ltb n (length (drop start list))) refl
+  where
+    n : ℕ
+    n = position_or_len is_newline (drop start list)
 
-pub scan_none : (list : List ℕ) (start : ℕ) → start < length list → Scanned list start start
-scan_none list start h =
-    let e : 0 ≡ start - start = omega arith in
-    record { from = omega arith; inside = omega arith; rest = ap (λ (n : ℕ). lines_from (part list start n) (drop start list)) e }
-
-module _ (list : List ℕ) (start end : ℕ) (s : Scanned list start end) where
-  here : end < length list → lines_of (drop start list) ≡ cond (eqb (get_or list end 0) 10) (part list start (end - start) ∷ lines_of (drop (suc end) list)) (lines_from (part list start (end - start) ++ (get_or list end 0 ∷ [])) (drop (suc end) list))
-  here h =
-      s.rest
-      ∙ ap (lines_from (part list start (end - start))) (drop-cons list end 0 h)
-      ∙ one_more (part list start (end - start)) (drop (suc end) list) (get_or list end 0)
-
-  grown : end < length list → part list start (end - start) ++ (get_or list end 0 ∷ []) ≡ part list start (end + 1 - start)
-  grown h =
-      let f = s.from in
-      let i : end - start < length (drop start list) = omega (arith, length-drop start list) in
-      let e : suc (end - start) ≡ end + 1 - start = omega arith in
-      let k : start + (end - start) ≡ end = omega arith in
-      ap (λ (x : ℕ). part list start (end - start) ++ (x ∷ [])) (sym (get_or-drop start list (end - start) 0 ∙ ap (λ (n : ℕ). get_or list n 0) k))
-      ∙ sym (take-suc (drop start list) (end - start) 0 i)
-      ∙ ap (part list start) e
-
-  pub scan_next : end < length list → (get_or list end 0 ≡ 10 → ⊥) → Scanned list start (end + 1)
-  scan_next h n =
-      let f = s.from in
-      record {
-        from = omega arith;
-        inside = omega arith;
-        rest =
-            here h
-            ∙ ap (λ (b : Bool). cond b (part list start (end - start) ∷ lines_of (drop (suc end) list)) (lines_from (part list start (end - start) ++ (get_or list end 0 ∷ [])) (drop (suc end) list))) (ne_eqb (get_or list end 0) 10 n)
-            ∙ ap (λ (l : List ℕ). lines_from l (drop (suc end) list)) (grown h)
-            ∙ ap (λ (n : ℕ). lines_from (part list start (end + 1 - start)) (drop n list)) (sym (add-one end));
-      }
-
-  pub scan_stop : end < length list → get_or list end 0 ≡ 10 → FirstLine list start end
-  scan_stop h e =
-      record {
-        from = s.from;
-        inside = s.inside;
-        first =
-            here h
-            ∙ ap (λ (b : Bool). cond b (part list start (end - start) ∷ lines_of (drop (suc end) list)) (lines_from (part list start (end - start) ++ (get_or list end 0 ∷ [])) (drop (suc end) list))) (eq-eqb (get_or list end 0) 10 e)
-            ∙ ap (λ (n : ℕ). part list start (end - start) ∷ lines_of (drop n list)) (sym (add-one end));
-      }
-
-  pub scan_all : start < length list → length list ≤ end → FirstLine list start end
-  scan_all h k =
-      let f = s.from in
-      let p : List ℕ = part list start (end - start) in
-      let l : length p ≡ end - start = length-take-le (end - start) (drop start list) (omega (arith, length-drop start list, s.inside)) in
-      record {
-        from = f;
-        inside = s.inside;
-        first =
-            s.rest
-            ∙ ap (lines_from p) (dropped end list k)
-            ∙ last_one p (omega arith)
-            ∙ ap (λ (ns : List (List ℕ)). p ∷ ns) (sym (none_left list (end + 1) (omega arith)));
-      }
+    go : (b : Bool) → ltb n (length (drop start list)) ≡ b → MatchOption found (FirstLine list start (length list)) (λ i. FirstLine list start (start + i))
+    go true f = rw (e, f) (first_line list start (start + n) h refl)
+    go false f =
+        let l = ltb-false n (length (drop start list)) f in
+        let m : n ≤ length (drop start list) = prefix_len-le-length (λ b. not (is_newline b)) (drop start list) in
+        rw (e, f) (first_line list start (length list) h (omega (arith, length-drop start list)))

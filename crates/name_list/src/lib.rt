@@ -9,12 +9,8 @@ pub fn line_end(list: &[u8], start: usize) -> usize
     requires { start < length list.now }
     ensures { FirstLine list.now start result }
 {
-    let mut end = start;
-    while end < list.len() {
-        if list[end] == b'\n' {
-            return end;
-        }
-        end += 1;
+    match list[start..].iter().position(|&byte| byte == b'\n') {
+        Some(before) => start + before,
+        None => list.len(),
     }
-    end
 }
