@@ -2,34 +2,26 @@
 #![tactic(auto)]
 
 ghost use Rattle.std.specs.Prelude.{◌≡◌};
+ghost use Rattle.refusal.specs.Numbered.{number_or_0};
 ghost use Rattle.sheet_head.specs.Head.{head_fault};
 
-// The refusal of the sheet as a whole, or 0.
-#[tactic(auto, using(crate::proofs::Head::mark_bytes), unfolding(crate::specs::Head::head_fault))]
-pub fn head_fault(s: &[u8]) -> u32
-    ensures { result ≡ head_fault s.now }
+use refusal::Refusal;
+
+// Whether the sheet as a whole is refused: its length, its mark, its version.
+#[tactic(auto, using(crate::proofs::Head::mark_starts), unfolding(crate::specs::Head::head_fault))]
+pub fn check(s: &[u8]) -> Result<(), Refusal>
+    ensures { number_or_0 result ≡ head_fault s.now }
 {
     if 65536 < s.len() {
-        return 1;
+        return Err(Refusal::SheetTooLong);
     }
-    if s.len() < 7 {
-        return 2;
-    }
-    if s[0] != b'E' {
-        return 2;
-    }
-    if s[1] != b'A' {
-        return 2;
-    }
-    if s[2] != b'S' {
-        return 2;
+    if s.len() < 7 || !s.starts_with(b"EAS") {
+        return Err(Refusal::NoMark);
     }
     let version = sheet_record::number(s, 3, 2);
-    if version == 1 {
-        return 0;
+    if version == 1 || version == 2 {
+        Ok(())
+    } else {
+        Err(Refusal::UnknownVersion)
     }
-    if version == 2 {
-        return 0;
-    }
-    3
 }
