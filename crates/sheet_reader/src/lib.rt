@@ -1,10 +1,13 @@
 // The sheet reader, which goes from one record to the next.
 #![tactic(auto)]
 
-ghost use Rattle.std.specs.Prelude.{◌≡◌, true};
+ghost use Rattle.std.specs.Prelude.{◌≡◌};
+ghost use Rattle.refusal.specs.Numbered.{number_or_0};
 ghost use Rattle.sheet_record.specs.Layout.{layout_in};
-ghost use Rattle.sheet_record.specs.Front.{stands_at};
-ghost use Rattle.sheet_reader.specs.Reading.{read_on};
+ghost use Rattle.sheet_record.specs.Front.{end_at};
+ghost use Rattle.sheet_reader.specs.Reading.{place_given, stepped};
+
+use refusal::Refusal;
 
 // The sheet reader: the sheet, the place of its next record, and how many are left.
 #[derive(Clone, Copy)]
@@ -14,28 +17,37 @@ pub struct Reader<'a> {
     pub left: usize,
 }
 
-// A reader at a place of a sheet.
-pub fn make<'a>(sheet: &'a [u8], at: usize, left: usize) -> Reader<'a>
-    ensures { (result.sheet ≡ sheet.entry) × (result.at ≡ at) × (result.left ≡ left) }
-{
-    Reader { sheet, at, left }
-}
+impl<'a> Reader<'a> {
+    // A reader behind a sheet's header, where so many records are announced.
+    pub fn new(sheet: &'a [u8], records: usize) -> Self
+        ensures { (result.sheet ≡ sheet.entry) × (result.at ≡ 7) × (result.left ≡ records) }
+    {
+        Reader {
+            sheet,
+            at: 7,
+            left: records,
+        }
+    }
 
-// Whether a record stands where the reader is.
-pub fn more<'a>(r: Reader<'a>) -> bool
-    ensures { result ≡ stands_at (layout_in r.entry.sheet.now) r.entry.sheet.now r.entry.at r.entry.left }
-{
-    sheet_record::stands_at(r.sheet, r.at, r.left)
-}
+    // Goes behind the record that stands where the reader is, and gives its place; stays where none stands.
+    #[tactic(auto, using(sheet_record::proofs::Steps::stands_left))]
+    pub fn step(&mut self) -> Option<usize>
+        ensures place { result ≡ place_given self.old }
+        ensures reader { self.new ≡ stepped self.old }
+    {
+        let at = self.at;
+        if !sheet_record::stands_at(self.sheet, at, self.left) {
+            return None;
+        }
+        self.at = sheet_record::past_at(self.sheet, at, self.left);
+        self.left -= 1;
+        Some(at)
+    }
 
-// The reader behind the record that stands where it is.
-pub fn next<'a>(r: Reader<'a>) -> Reader<'a>
-    requires { stands_at (layout_in r.sheet.now) r.sheet.now r.at r.left ≡ true }
-    ensures { result ≡ read_on r.entry }
-{
-    Reader {
-        sheet: r.sheet,
-        at: sheet_record::past_at(r.sheet, r.at, r.left),
-        left: r.left - 1,
+    // Whether the sheet ends where the reader stays, or why not.
+    pub fn end(&self) -> Result<(), Refusal>
+        ensures { number_or_0 result ≡ end_at (layout_in self.now.sheet.now) self.now.sheet.now self.now.at self.now.left }
+    {
+        sheet_record::end_at(self.sheet, self.at, self.left)
     }
 }
