@@ -14,6 +14,7 @@ fn rise(y: i64, z: i64) -> i64
 }
 
 // The entropy at a place, with no join.
+#[tactic(auto, unfolding(air_entropy::specs::Entropy::entropy_at, air_entropy::specs::Entropy::fitted_entropy))]
 pub fn entropy_at(y: i64, z: i64) -> i64
     requires { PlaceReady y z }
     ensures { result ≡ entropy_at y z }
