@@ -1,74 +1,79 @@
 // Entropy of an energy and a density.
 #![tactic(auto)]
 
-ghost use Rattle.std.specs.Prelude.{◌≡◌};
+ghost use Rattle.std.specs.Prelude.{◌≡◌, Some, None};
 ghost use Rattle.std.proofs.Math.Option.{some};
-ghost use Rattle.air.specs.declared.Edges.TheVariants.{Unfitted};
-ghost use Rattle.bands.specs.declared.Strip.TheVariants.{Clear, Between};
-ghost use Rattle.air.specs.Held.{held, judges};
-ghost use Rattle.air_entropy.specs.Entropy.{letter_s, entropy_in, entropy_from};
+ghost use Rattle.bands.specs.Bands.{strip_of};
+ghost use Rattle.air.specs.Held.{held};
 ghost use Rattle.air.specs.Choices.{chosen};
-ghost use Rattle.air_entropy.specs.Property.{entropy_property};
 ghost use Rattle.air.specs.Property.{held_by};
 ghost use Rattle.air.specs.Ready.{PlaceReady, JoinReady};
+ghost use Rattle.air_entropy.specs.Entropy.{entropy_from};
+ghost use Rattle.air_entropy.specs.Property.{entropy_property};
+ghost use Rattle.entropy.specs.Within.{within_limit};
 
-use air::{Answer, Edges, Ends, Logs};
-use answers::Taken;
+use air::{Answer, Edges, Logs};
 use bands::Strip;
+use refusal::Refusal;
 
-// Refusal 12 of an entropy.
-fn beyond(logs: Logs) -> Answer
-    ensures { held result ≡ judges 12 letter_s logs Unfitted }
+// The entropy outside the strips, where Z is within its limit.
+fn unjoined(y: i64, z: i64) -> Option<i64>
+    requires { PlaceReady y z }
+    ensures { result ≡ within_limit None y z }
 {
-    answers::judged(b'S', 12, logs, Edges::Unfitted)
-}
-
-// An entropy's answer outside the strips.
-fn unjoined(logs: Logs) -> Answer
-    requires { PlaceReady logs.y logs.z }
-    ensures { held result ≡ entropy_in Clear logs }
-{
-    let y = logs.y;
-    let z = logs.z;
     if entropy_fit::above_limit(y, z) {
-        return beyond(logs);
+        return None;
     }
-    let s = entropy_fit::entropy_at(y, z);
-    answers::shown(b'S', logs, Edges::Unfitted, Ends::Unjoined, s)
+    Some(entropy_fit::entropy_at(y, z))
 }
 
-// An entropy's answer inside a strip, by its value at both edges.
-fn joined(logs: Logs, a: i64, b: i64) -> Answer
-    requires { JoinReady a b logs.y logs.z }
-    ensures { held result ≡ entropy_in (Between a b) logs }
+// The entropy inside a strip, where Z is within its limit at both edges.
+fn joined(strip: Strip, y: i64, z: i64) -> Option<i64>
+    requires { JoinReady strip y z }
+    ensures { result ≡ within_limit (Some strip) y z }
 {
-    let y = logs.y;
-    let z = logs.z;
-    if entropy_fit::above_limit(a, z) {
-        return beyond(logs);
+    if entropy_fit::above_limit(strip.low, z) || entropy_fit::above_limit(strip.high, z) {
+        return None;
     }
-    if entropy_fit::above_limit(b, z) {
-        return beyond(logs);
+    let low = entropy_fit::entropy_at(strip.low, z);
+    let high = entropy_fit::entropy_at(strip.high, z);
+    Some(proportion::straight(strip.low, strip.high, low, high, y))
+}
+
+// The entropy where Z is within its limit.
+#[tactic(auto, using(air::proofs::Strips::strip_ready))]
+fn within_limit(y: i64, z: i64) -> Option<i64>
+    requires { PlaceReady y z }
+    ensures { result ≡ within_limit (strip_of y) y z }
+{
+    match bands::strip_of(y) {
+        None => unjoined(y, z),
+        Some(strip) => joined(strip, y, z),
     }
-    let s = proportion::straight(
-        a,
-        b,
-        entropy_fit::entropy_at(a, z),
-        entropy_fit::entropy_at(b, z),
-        y,
-    );
-    answers::shown(b'S', logs, Edges::Unfitted, Ends::Unjoined, s)
 }
 
 // An entropy's answer from its logarithms.
+#[tactic(auto, unfolding(air_entropy::specs::Entropy::entropy_in))]
 fn entropy_from(logs: Logs) -> Answer
     requires { PlaceReady logs.y logs.z }
     ensures { held result ≡ entropy_from logs }
 {
-    let y = logs.y;
-    match bands::strip_of(y) {
-        Strip::Clear => unjoined(logs),
-        Strip::Between(a, b) => joined(logs, a, b),
+    let letter = b'S';
+    let edges = Edges::Unfitted;
+    match within_limit(logs.y, logs.z) {
+        None => Answer::Judged {
+            letter,
+            refusal: Refusal::OutsideFits,
+            logs,
+            edges,
+        },
+        Some(value) => Answer::Shows {
+            letter,
+            logs,
+            edges,
+            ends: None,
+            value,
+        },
     }
 }
 
@@ -77,7 +82,7 @@ pub fn entropy(e: u64, d: u64) -> Answer
     ensures { held result ≡ held_by chosen (some entropy_property) e d }
 {
     match answers::energy_logs(e, d) {
-        Taken::Beyond(n) => Answer::Refused(n),
-        Taken::Carried(logs) => entropy_from(logs),
+        Ok(logs) => entropy_from(logs),
+        Err(refusal) => Answer::Refused(refusal),
     }
 }
