@@ -1,3 +1,1 @@
-pub mod Signs
-pub mod Digits
-pub mod Places
+pub mod Texts

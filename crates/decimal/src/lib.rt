@@ -1,66 +1,37 @@
-// Numbers in decimal, put into a line.
+// Numbers in decimal, at the end of a line.
 #![tactic(auto)]
 
-ghost use Rattle.std.specs.Prelude.{◌≡◌, ◌+◌, ◌<◌, ◌≤◌, ◌^◌, nat_abs, length};
-ghost use Rattle.std.proofs.lemmas.List.Edits.{sets};
+ghost use Rattle.std.specs.Prelude.{◌≡◌, ◌+◌, ◌≤◌, ◌++◌, length};
+ghost use Rattle.arrayvec.specs.ArrayVec.{array_vec_len};
 ghost use Rattle.decimal.specs.Decimal.{natural, whole};
 
-// How many digits a number has.
-fn count(n: u64) -> usize
-    ensures { result ≡ length (natural n) }
+use arrayvec::ArrayVec;
+use itoa::{Buffer, Integer};
+
+// Puts a number behind a line that has room for its digits.
+fn put<I: Integer, const N: usize>(line: &mut ArrayVec<u8, N>, n: I)
+    requires { array_vec_len line.old + length (I.text n) ≤ N }
+    ensures { line.new.items ≡ line.old.items ++ I.text n }
 {
-    let mut rest = n;
-    let mut k = 1;
-    while 10 <= rest {
-        rest = rest / 10;
-        k += 1;
-    }
-    k
+    let mut digits = Buffer::new();
+    line.try_extend_from_slice(digits.format(n).as_bytes())
+        .unwrap();
 }
 
-// A digit as a byte.
-fn digit(d: u64) -> u8
-    requires { d < 10 }
-    ensures { result ≡ 48 + d }
+// Puts a number that is not negative behind a line.
+#[tactic(auto, using(crate::proofs::Texts::natural_text))]
+pub fn put_natural<const N: usize>(line: &mut ArrayVec<u8, N>, n: u64)
+    requires { array_vec_len line.old + length (natural n) ≤ N }
+    ensures { line.new.items ≡ line.old.items ++ natural n }
 {
-    48 + d as u8
+    put(line, n);
 }
 
-// Puts a number of at most 19 digits at a place of a line, the last digit first, and gives the place behind it.
-pub fn put_natural(line: &mut [u8; 192], at: usize, n: u64) -> usize
-    requires { (n < 10 ^ 19) × (at + 19 ≤ 192) }
-    ensures value { (result ≡ at + length (natural n)) × (result ≤ at + 19) }
-    ensures line_after { line.new ≡ sets line.old at (natural n) }
+// Puts a whole number behind a line.
+#[tactic(auto, using(crate::proofs::Texts::whole_text))]
+pub fn put_whole<const N: usize>(line: &mut ArrayVec<u8, N>, z: i64)
+    requires { array_vec_len line.old + length (whole z) ≤ N }
+    ensures { line.new.items ≡ line.old.items ++ whole z }
 {
-    let end = at + count(n);
-    let mut rest = n;
-    let mut p = end - 1;
-    while 10 <= rest {
-        line[p] = digit(rest % 10);
-        rest = rest / 10;
-        p -= 1;
-    }
-    line[p] = digit(rest);
-    end
-}
-
-// The size of a whole number.
-fn size(z: i64) -> u64
-    ensures { result ≡ nat_abs z }
-{
-    if z < 0 { (-1 - z) as u64 + 1 } else { z as u64 }
-}
-
-// Puts a whole number at a place of a line, and gives the place behind it.
-pub fn put_whole(line: &mut [u8; 192], at: usize, z: i64) -> usize
-    requires { at + 20 ≤ 192 }
-    ensures value { (result ≡ at + length (whole z)) × (result ≤ at + 20) }
-    ensures line_after { line.new ≡ sets line.old at (whole z) }
-{
-    let n = size(z);
-    if z < 0 {
-        line[at] = b'-';
-        return put_natural(line, at + 1, n);
-    }
-    put_natural(line, at, n)
+    put(line, z);
 }
