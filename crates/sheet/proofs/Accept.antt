@@ -8,6 +8,9 @@ use native.Mathlib.Omega.{arith}
 use borrow.Author.Tests.{eqb-true, ltb-false}
 use lib.Dec.{eqb, ltb}
 use lib.ListN.{length, take}
+use Rattle.refusal.specs.declared.Refusal.{Refusal}
+use Rattle.refusal.specs.Numbered.{number_for}
+use Rattle.refusal.proofs.Apart.{never_zero}
 use Rattle.distinct.specs.Distinct.{repeats}
 use Rattle.octets.specs.Bytes.{number_at}
 use Rattle.sheet_record.specs.Layout.{Layout, layout_of, layout_in, or_plain}
@@ -15,7 +18,7 @@ use Rattle.sheet_record.specs.Front.{end_at}
 use Rattle.sheet_head.specs.Head.{is_marked}
 use Rattle.sheet.specs.Sheet.{Sheet, refused, records, with_layout, sheet_by, sheet_of, number_of, Accepted}
 use Rattle.sheet_head.specs.Head.{version_fault, head_fault}
-use Rattle.sheet.specs.Structure.{fault_from, places_from, Walked}
+use Rattle.sheet.specs.Structure.{fault_from, Walked}
 use Rattle.sheet_record.specs.declared.Record.{Record}
 use Rattle.sheet_record.proofs.Places.{or_false}
 use Rattle.sheet.proofs.Walk.{records_from, twice, names, verdict, walk_verdict, repeats_names}
@@ -72,6 +75,10 @@ number_head s h = ap number_of (sheet_verdict s) ∙ go (head_fault s) h
     go zero z = absurd (z refl)
     go (suc k) z = refl
 
+-- the header's refusal by its name
+pub head_refused : (s : List ℕ) (r : Refusal) → number_for r ≡ head_fault s → number_for r ≡ number_of (sheet_of s)
+head_refused s r e = e ∙ sym (number_head s (λ z. let h = never_zero r in omega arith))
+
 -- the number of any other sheet: 16 where two of the records read share a name, else what ended their reading
 pub number_records : (s : List ℕ) → head_fault s ≡ 0 → number_of (sheet_of s) ≡ cond (twice (names s (read s))) 16 (fault s)
 number_records s h =
@@ -118,10 +125,8 @@ module _ (s : List ℕ) (a : Accepted s) where
   accepted_is = sheet_verdict s ∙ rw (accepted_head, accepted_apart, accepted_fault)
 
 -- the number of a sheet, from where a walk over its records ends
-pub number_walked : (s : List ℕ) (n at left count : ℕ) (starts : List ℕ) → head_fault s ≡ 0 → n ≡ number_at 2 s 5 → Walked s n at left count starts
+pub number_walked : (s : List ℕ) (at left count : ℕ) (starts : List ℕ) → head_fault s ≡ 0 → Walked s (number_at 2 s 5) at left count starts
     → number_of (sheet_of s) ≡ cond (repeats s (take count starts)) 16 (end_at (layout_in s) s at left)
-number_walked s n at left count starts h e w =
-    let c : repeats s (take count starts) ≡ twice (names s (read s)) =
-    ap (repeats s) w.places ∙ ap (λ (m : ℕ). repeats s (places_from (layout_in s) s m 7)) e ∙ repeats_names (layout_in s) s (number_at 2 s 5) 7 in
-    let f : end_at (layout_in s) s at left ≡ fault s = w.fault ∙ ap (λ (m : ℕ). fault_from (layout_in s) s m 7) e in
-    number_records s h ∙ ap₂ (λ (b : Bool) (k : ℕ). cond b 16 k) (sym c) (sym f)
+number_walked s at left count starts h w =
+    let c : repeats s (take count starts) ≡ twice (names s (read s)) = ap (repeats s) w.places ∙ repeats_names (layout_in s) s (number_at 2 s 5) 7 in
+    number_records s h ∙ ap₂ (λ (b : Bool) (k : ℕ). cond b 16 k) (sym c) (sym w.fault)

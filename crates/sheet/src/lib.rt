@@ -1,80 +1,114 @@
 // The state sheet: a walk over its records, and an index of their names.
 #![tactic(auto)]
 
-ghost use Rattle.std.specs.Prelude.{◌≡◌, ◌<◌, ◌≤◌, length, set};
-ghost use Rattle.sheet.specs.Index.{Blank, Indexed};
-ghost use Rattle.sheet.specs.Sheet.{number_of, sheet_of};
+ghost use Rattle.std.specs.Prelude.{◌≡◌, ◌<◌, ◌≤◌, length, slice_get, Some, IfOk, IsOk};
+ghost use Rattle.refusal.specs.Numbered.{number_or_0};
+ghost use Rattle.distinct.specs.Chain.{Blank};
+ghost use Rattle.sheet.specs.Index.{Indexed, Named};
+ghost use Rattle.sheet.specs.Sheet.{Accepted, number_of, sheet_of, records_of};
 ghost use Rattle.sheet.specs.Structure.{Walked};
 
-// Where a walk over the records ends: the reader's place, how many records are left, and how many come before.
-#[derive(Clone, Copy)]
-struct Tally {
-    at: usize,
-    left: usize,
-    count: usize,
+use distinct::Index;
+use refusal::Refusal;
+use sheet_reader::Reader;
+use sheet_record::Record;
+use std::marker::Model;
+
+// Walks over the records, keeps the place of each length byte, and gives their count.
+fn keep_places(reader: &mut Reader, starts: &mut [u16; 3449]) -> usize
+    requires { (length reader.old.sheet.now ≤ 65536) × (reader.old.at ≡ 7) }
+    ensures sheet { reader.new.sheet ≡ reader.old.sheet }
+    ensures walked { Walked reader.old.sheet.now reader.old.left reader.new.at reader.new.left result starts.new }
+{
+    let mut count: usize = 0;
+    while let Some(at) = reader.step() {
+        starts[count] = at as u16;
+        count += 1;
+    }
+    count
 }
 
-// Keeps the place of a length byte.
-fn keep(starts: &mut [u16; 3449], i: usize, at: usize)
-    requires { (i < 3449) × (at < 65536) }
-    ensures { starts.new ≡ set starts.old i at }
+// The first condition that refuses a sheet: structure first, then names. Where none does, the room becomes the sheet's index.
+#[tactic(auto, using(crate::proofs::Accept::head_refused))]
+fn fill(s: &[u8], room: &mut Index) -> Result<(), Refusal>
+    requires { Blank room.old }
+    ensures value { number_or_0 result ≡ number_of (sheet_of s.now) }
+    ensures indexed { IsOk result → Indexed s.now room.new.starts room.new.heads room.new.next }
 {
-    starts[i] = at as u16;
-}
-
-// Walks over the records with one reader, and keeps the place of each length byte.
-fn walk_records(s: &[u8], records: usize, starts: &mut [u16; 3449]) -> Tally
-    requires { (length s.now ≤ 65536) × (length starts.old ≡ 3449) }
-    ensures { Walked s.now records result.at result.left result.count starts.new }
-{
-    let mut r = sheet_reader::make(s, 7, records);
-    let mut i: usize = 0;
-    while sheet_reader::more(r) {
-        keep(starts, i, r.at);
-        r = sheet_reader::next(r);
-        i += 1;
-    }
-    Tally {
-        at: r.at,
-        left: r.left,
-        count: i,
-    }
-}
-
-// The number of the first condition that refuses a sheet, or 0: structure first, then names. Where it is 0, the lent arrays become the
-// sheet's index.
-pub fn index(
-    s: &[u8],
-    starts: &mut [u16; 3449],
-    heads: &mut [u16; 4096],
-    next: &mut [u16; 3449],
-) -> u32
-    requires { Blank starts.old heads.old next.old }
-    ensures value { result ≡ number_of (sheet_of s.now) }
-    ensures indexed { result ≡ 0 → Indexed s.now starts.new heads.new next.new }
-{
-    let head = sheet_head::head_fault(s);
-    if head != 0 {
-        return head;
-    }
-    let records = sheet_record::number(s, 5, 2) as usize;
-    let walked = walk_records(s, records, starts);
-    let at = walked.at;
-    let left = walked.left;
-    let end = sheet_record::end_at(s, at, left);
-    let count = walked.count;
-    if distinct::repeats(s, starts, count, heads, next) {
-        return 16;
+    sheet_head::check(s)?;
+    let mut reader = Reader::new(s, sheet_record::number(s, 5, 2) as usize);
+    let count = keep_places(&mut reader, &mut room.starts);
+    let end = reader.end();
+    if room.repeats(s, count) {
+        return Err(Refusal::NameTwice);
     }
     end
 }
 
-// The number of the first condition that refuses a sheet, or 0.
-pub fn check(s: &[u8]) -> u32
-    ensures { result ≡ number_of (sheet_of s.now) }
+// A sheet that is accepted, with the index of its names in lent room.
+#[derive(Drop)]
+pub struct Sheet<'a> {
+    bytes: &'a [u8],
+    index: &'a Index,
+}
+
+impl<'a> Model for Sheet<'a> {
+    ghost use Rattle.std.specs.Prelude.{List, ℕ};
+    ghost use Rattle.sheet.specs.Index.{Indexed};
+
+    ghost Value = { List ℕ };
+
+    ghost view = { λ t. t.bytes.now };
+
+    ghost invariant = { λ t. Indexed t.bytes.now t.index.now.starts t.index.now.heads t.index.now.next };
+}
+
+impl<'a> Sheet<'a> {
+    // The sheet's bytes.
+    pub fn bytes(&self) -> &'a [u8]
+        ensures value { result.now ≡ self.now }
+        ensures accepted { Accepted self.now }
+    {
+        self.bytes
+    }
+
+    // How many records the sheet has.
+    #[tactic(auto, using(crate::proofs::Counted::accepted_count, crate::proofs::Places::seven))]
+    pub fn count(&self) -> usize
+        ensures { result ≡ length (records_of (sheet_of self.now)) }
+    {
+        sheet_record::number(self.bytes, 5, 2) as usize
+    }
+
+    // A record by its number, from 0.
+    pub fn record(&self, i: usize) -> Record
+        requires { i < length (records_of (sheet_of self.now)) }
+        ensures { slice_get (records_of (sheet_of self.now)) i ≡ Some result }
+    {
+        sheet_record::entry_at(self.bytes, usize::from(self.index.starts[i]))
+    }
+
+    // The number of the record that has a name, where one has.
+    pub fn place_of(&self, name: &[u8]) -> Option<usize>
+        ensures { Named self.now (records_of (sheet_of self.now)) name.now result }
+    {
+        self.index.place_of(self.bytes, name)
+    }
+}
+
+// The first condition that refuses a sheet, or the sheet with its index in the room.
+pub fn index<'a>(bytes: &'a [u8], room: &'a mut Index) -> Result<Sheet<'a>, Refusal>
+    requires { Blank room.old }
+    ensures value { number_or_0 result ≡ number_of (sheet_of bytes.now) }
+    ensures sheet { IfOk result (λ t. t ≡ bytes.now) }
 {
-    let mut starts = distinct::no_links();
-    let mut heads = distinct::no_heads();
-    let mut next = distinct::no_links();
-    index(s, &mut starts, &mut heads, &mut next)
+    fill(bytes, room)?;
+    Ok(Sheet { bytes, index: room })
+}
+
+// The first condition that refuses a sheet, if any does.
+pub fn check(s: &[u8]) -> Result<(), Refusal>
+    ensures { number_or_0 result ≡ number_of (sheet_of s.now) }
+{
+    fill(s, &mut Index::blank())
 }
