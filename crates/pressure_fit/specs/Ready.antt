@@ -1,6 +1,7 @@
 -- What the steps of a pressure may take for granted: where their numbers lie.
 use Rattle.std.specs.Prelude.{ℕ, ◌^◌, ◌≤◌, ℤ, pos, neg_ℤ, nat_abs, ◌≤ℤ◌}
 use Rattle.quotient.specs.Range.{Between}
+use Rattle.bands.specs.declared.Strip.{Strip}
 use Rattle.air.specs.Quantities.{D0}
 
 -- a Y and a Z that gamma is taken at
@@ -15,10 +16,10 @@ pub record ValuesReady (e d : ℕ) : Type 0 where
   pub energy : e ≤ 10 ^ 12
   pub density : d ≤ 129200000000000
 
--- a strip's two edges around a Y, a Z, and the values: in a strip a density is at most D0
-pub record StripReady (e d : ℕ) (a b y z : ℤ) : Type 0 where
-  pub between : Between a b y
-  pub low : GammaReady a z
-  pub high : GammaReady b z
+-- a strip around a Y, a Z, and the values: in a strip a density is at most D0
+pub record StripReady (e d : ℕ) (s : Strip) (y z : ℤ) : Type 0 where
+  pub between : Between s.low s.high y
+  pub low : GammaReady s.low z
+  pub high : GammaReady s.high z
   pub energy : e ≤ 10 ^ 12
   pub density : d ≤ D0

@@ -7,6 +7,7 @@ ghost use Rattle.air.specs.Choices.{chosen};
 ghost use Rattle.air_pressure.specs.Pressure.{gamma_at, is_warned, beyond_gamma, pressure_of};
 ghost use Rattle.pressure_fit.specs.Ready.{GammaReady, ValuesReady};
 
+use bands::Strip;
 use fit::Edge;
 
 // Whether the listing warns at a place.
@@ -16,14 +17,11 @@ pub fn is_warned(y: i64, z: i64) -> bool
     tgas1_gamma::is_warned(bands::band_of(y), z)
 }
 
-// Whether it warns at one of two edges.
-pub fn is_either_warned(a: i64, b: i64, z: i64) -> bool
-    ensures { result ≡ (is_warned a z || is_warned b z) }
+// Whether it warns at one of a strip's edges.
+pub fn is_either_warned(strip: Strip, z: i64) -> bool
+    ensures { result ≡ (is_warned strip.low z || is_warned strip.high z) }
 {
-    if is_warned(a, z) {
-        return true;
-    }
-    is_warned(b, z)
+    is_warned(strip.low, z) || is_warned(strip.high, z)
 }
 
 // The fit of the piece that Y and Z choose.
@@ -38,20 +36,14 @@ pub fn gamma_at(y: i64, z: i64) -> Edge
 pub fn is_beyond(gamma: i64) -> bool
     ensures { result ≡ beyond_gamma gamma }
 {
-    if gamma <= 10100000000 {
-        return true;
-    }
-    20000000000 <= gamma
+    gamma <= 10100000000 || 20000000000 <= gamma
 }
 
 // Whether one of two gammas does.
 pub fn is_either_beyond(low: i64, high: i64) -> bool
     ensures { result ≡ (beyond_gamma low || beyond_gamma high) }
 {
-    if is_beyond(low) {
-        return true;
-    }
-    is_beyond(high)
+    is_beyond(low) || is_beyond(high)
 }
 
 // The pressure of a gamma that does not.

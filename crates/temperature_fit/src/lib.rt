@@ -25,20 +25,14 @@ pub fn fit_in(band: Band, y: i64, z: i64) -> Edge
 pub fn is_beyond(fit: i64) -> bool
     ensures { result ≡ beyond_fit fit }
 {
-    if fit < 0 {
-        return true;
-    }
-    19600000000 < fit
+    fit < 0 || 19600000000 < fit
 }
 
 // Whether one of two fits does.
 pub fn is_either_beyond(low: i64, high: i64) -> bool
     ensures { result ≡ (beyond_fit low || beyond_fit high) }
 {
-    if is_beyond(low) {
-        return true;
-    }
-    is_beyond(high)
+    is_beyond(low) || is_beyond(high)
 }
 
 // The temperature of a fit that does not.

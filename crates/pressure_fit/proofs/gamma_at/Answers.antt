@@ -1,10 +1,9 @@
--- `pressure_fit::gamma_at` is the fit of the piece that Y and Z choose.
-use mathlib.Core.Path.{◌≡◌, ap, ◌∙◌, subst, sym}
+-- `pressure_fit::gamma_at`: a weight serves the piece that Y and Z choose.
+use mathlib.Core.Path.{◌≡◌, subst, sym}
 use native.Mathlib.Omega.{arith}
 use lib.Dec.{lit≤}
 use Rattle.integer.proofs.Machine.{back}
-use Rattle.weight.specs.Choice.{weight_by}
-use Rattle.fit.specs.Edge.{edge_with, Workable}
+use Rattle.fit.specs.Edge.{Workable}
 use Rattle.fit.proofs.Pieces.{workable}
 use Rattle.bands.specs.declared.Band.{Band}
 use Rattle.bands.specs.Bands.{band_of}
@@ -19,11 +18,6 @@ use Rattle.pressure_fit.proofs.gamma_at.Goals.{After-band_of, Start}
 
 band : (c : After-band_of) → c.band_of.result ≡ band_of c.args.y
 band c = rw (back c.ranges.y) at c.band_of.ensures
-
-pub returns : goal.returns
-returns c =
-    (rw (back c.ranges.y, back c.ranges.z) at c.gamma.ensures)
-    ∙ ap (λ (b : Band). edge_with weight_by (gamma_piece b c.args.z) c.args.y c.args.z) (band (goal.at.returns c).After-band_of)
 
 takes : (s : Start) → Workable (gamma_at s.args.y s.args.z) s.args.y s.args.z
 takes s =

@@ -1,4 +1,4 @@
--- `pressure_fit::pressure_of` is the long product of the density, the energy and gamma - 1.
+-- `pressure_fit::pressure_of`: the long product of the density, the energy and gamma - 1, and how large it is.
 use mathlib.Core.Path.{◌≡◌, sym, ap, ◌∙◌}
 use Prim.Native.Nat.{◌*◌, ◌/◌, ◌^◌, ◌<◌}
 use native.Mathlib.Nat.{lt_of_le_of_lt}
@@ -23,18 +23,6 @@ fits s = let p = gamma s in rw p.is (fits64 (pos p.above) (omega (arith, p.most)
 -- gamma - 1, as the code has it
 above : (s : Start) → to_z w64 (of_z w64 (to_z w64 (of_z w64 s.args.gamma) -ℤ pos 10000000000)) ≡ pos (gamma s).above
 above s = ap (λ (g : ℤ). to_z w64 (of_z w64 (g -ℤ pos 10000000000))) (back s.ranges.gamma) ∙ back (fits s) ∙ (gamma s).is
-
-pub overflow_sub-gamma : goal.overflow_sub-gamma
-overflow_sub-gamma c = rw (back c.ranges.gamma) (fits c)
-
-pub overflow_cast-gamma : goal.overflow_cast-gamma
-overflow_cast-gamma c = let p = gamma c in rw (above c) (tt, record { fits = omega (arith, p.most) })
-
-pub pressure-requires : goal.pressure-requires
-pressure-requires c =
-    let p = gamma c in
-    let r = c.requires.0 in
-    rw (above c) (record { density = omega (arith, r.density, r.energy); energy = omega (arith, r.density, r.energy); gamma = p.most })
 
 result : (c : After-pressure) → c.pressure.result ≡ c.args.d * c.args.e * (gamma c.before).above / 10 ^ 18
 result c = rw (above c.before) at c.pressure.ensures

@@ -1,6 +1,5 @@
--- `temperature_fit::fit_in` is the fit of the piece that Z chooses.
+-- `temperature_fit::fit_in`: a weight serves the piece that Z chooses.
 use native.Mathlib.Omega.{arith}
-use Rattle.integer.proofs.Machine.{back}
 use Rattle.quotient.proofs.Machine.{in_back}
 use Rattle.fit.proofs.Pieces.{workable}
 use Rattle.bands.specs.Region.{temperature_index}
@@ -8,9 +7,6 @@ use Rattle.tgas1_temperature.proofs.Pieces.{piece_small}
 use Rattle.air_temperature.proofs.Allowed.{served_at}
 use Rattle.air.proofs.Sizes.{in_23}
 use Rattle.temperature_fit.proofs.fit_in.Goals as goal
-
-pub returns : goal.returns
-returns c = rw (back c.ranges.y, back c.ranges.z) at c.fit.ensures
 
 pub fit-requires : goal.fit-requires
 fit-requires c = workable (piece_small c.args.band _) (in_back c.ranges.y (in_23 c.args.y c.requires.y_most))
