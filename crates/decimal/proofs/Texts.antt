@@ -1,5 +1,5 @@
 -- A number's digits are what std writes, for the numbers of 64 bits.
-use Rattle.std.proofs.Common.{◌≡◌, ℕ, suc, ◌^◌, ◌≤◌, ◌<◌, ℤ, pos, negsuc, List, ◌∷◌, length, ap, w64, arith}
+use Rattle.std.proofs.Common.{◌≡◌, ℕ, suc, ◌^◌, ◌≤◌, ◌<◌, ℤ, pos, negsuc, nat_abs, List, ◌∷◌, length, ap, w64, arith}
 use Rattle.std.specs.Int.RustNames.{FitsSigned}
 use Rattle.std.specs.Fmt.{decimal, signed_decimal}
 use Rattle.std.proofs.lemmas.Fmt.{decimal_from_appends, length-decimal-le, length-decimal-le_succ}
@@ -16,11 +16,15 @@ unfolding whole
 whole_text (pos n) f = let l = f.sfits in natural_text n (omega arith)
 whole_text (negsuc n) f = let l = f.sfits in ap (λ (t : List ℕ). 45 ∷ t) (natural_text (suc n) (omega arith))
 
--- the most digits that there are
-pub natural_short : (n : ℕ) → n < 2 ^ 64 → length (natural n) ≤ 20
-natural_short n h = omega (arith, ap length (natural_text n h), length-decimal-le 20 n (omega arith) (omega arith) h)
+-- the most bytes that there are
+pub natural_short : (n : ℕ) → n < 10 ^ 19 → length (natural n) ≤ 19
+natural_short n h = omega (arith, ap length (natural_text n (omega arith)), length-decimal-le 19 n (omega arith) h (omega arith))
 
-pub whole_short : (z : ℤ) → FitsSigned w64 z → length (whole z) ≤ 20
+pub whole_short : (z : ℤ) → nat_abs z < 10 ^ 19 → length (whole z) ≤ 20
 unfolding whole
-whole_short (pos n) f = let l = f.sfits in omega (arith, ap length (natural_text n (omega arith)), length-decimal-le 19 n (omega arith) (omega arith) (omega arith))
-whole_short (negsuc n) f = let l = f.sfits in omega (arith, ap length (natural_text (suc n) (omega arith)), length-decimal-le 19 (suc n) (omega arith) (omega arith) (omega arith))
+whole_short (pos n) h = omega (arith, natural_short n h)
+whole_short (negsuc n) h = omega (arith, natural_short (suc n) h)
+
+pub column_short : (z : ℤ) → FitsSigned w64 z → length (whole z) ≤ 20
+column_short (pos n) f = let l = f.sfits in whole_short (pos n) (omega arith)
+column_short (negsuc n) f = let l = f.sfits in whole_short (negsuc n) (omega arith)

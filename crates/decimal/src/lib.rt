@@ -11,7 +11,8 @@ use itoa::{Buffer, Integer};
 // Puts a number behind a line that has room for its digits.
 fn put<I: Integer, const N: usize>(line: &mut ArrayVec<u8, N>, n: I)
     requires { array_vec_len line.old + length (I.text n) ≤ N }
-    ensures { line.new.items ≡ line.old.items ++ I.text n }
+    ensures text { line.new.items ≡ line.old.items ++ I.text n }
+    ensures len { array_vec_len line.new ≡ array_vec_len line.old + length (I.text n) }
 {
     let mut digits = Buffer::new();
     line.try_extend_from_slice(digits.format(n).as_bytes())
@@ -22,7 +23,8 @@ fn put<I: Integer, const N: usize>(line: &mut ArrayVec<u8, N>, n: I)
 #[tactic(auto, using(crate::proofs::Texts::natural_text))]
 pub fn put_natural<const N: usize>(line: &mut ArrayVec<u8, N>, n: u64)
     requires { array_vec_len line.old + length (natural n) ≤ N }
-    ensures { line.new.items ≡ line.old.items ++ natural n }
+    ensures text { line.new.items ≡ line.old.items ++ natural n }
+    ensures len { array_vec_len line.new ≡ array_vec_len line.old + length (natural n) }
 {
     put(line, n);
 }
@@ -31,7 +33,8 @@ pub fn put_natural<const N: usize>(line: &mut ArrayVec<u8, N>, n: u64)
 #[tactic(auto, using(crate::proofs::Texts::whole_text))]
 pub fn put_whole<const N: usize>(line: &mut ArrayVec<u8, N>, z: i64)
     requires { array_vec_len line.old + length (whole z) ≤ N }
-    ensures { line.new.items ≡ line.old.items ++ whole z }
+    ensures text { line.new.items ≡ line.old.items ++ whole z }
+    ensures len { array_vec_len line.new ≡ array_vec_len line.old + length (whole z) }
 {
     put(line, z);
 }

@@ -1,5 +1,3 @@
-pub mod Front
-pub mod Stores
 pub mod Names
 pub mod Pins
 pub mod Short

@@ -6,13 +6,13 @@ use Rattle.decimal.specs.Decimal.{digits, natural, whole}
 use Rattle.name.specs.Spelling.{unreserved, hex_value, spelled_byte, spelled, reading}
 use Rattle.name.specs.Name.{name_of}
 use Rattle.air.specs.declared.Edges.TheVariants.{Unfitted}
-use Rattle.air.specs.declared.Ends.TheVariants.{Unjoined}
+use Rattle.std.specs.Prelude.{None}
 use Rattle.air.specs.Held.{refuses, judges, shows}
 use Rattle.air.proofs.Pins.{pair}
 use Rattle.line.specs.Line.{value_rest, refusal_rest, line}
 
 -- a%2f with Y = -10, Z = 2 and the value 345: a%2F S -10 2 345
-pub shown : line (97 ∷ 37 ∷ 50 ∷ 102 ∷ []) (shows 83 (pair (negsuc 9) (pos 2)) Unfitted Unjoined (pos 345))
+pub shown : line (97 ∷ 37 ∷ 50 ∷ 102 ∷ []) (shows 83 (pair (negsuc 9) (pos 2)) Unfitted None (pos 345))
     ≡ 97 ∷ 37 ∷ 50 ∷ 70 ∷ 32 ∷ 83 ∷ 32 ∷ 45 ∷ 49 ∷ 48 ∷ 32 ∷ 50 ∷ 32 ∷ 51 ∷ 52 ∷ 53 ∷ 10 ∷ []
 unfolding line value_rest whole natural digits name_of reading hex_value spelled spelled_byte unreserved
 shown = refl

@@ -6,8 +6,7 @@ use native.Mathlib.Omega.{arith}
 use lib.IntN.{ℤ, nat_abs}
 use lib.ListN.{length, length-append}
 use Rattle.decimal.specs.Decimal.{natural, whole}
-use Rattle.decimal.proofs.Digits.{at_most}
-use Rattle.decimal.proofs.Signs.{whole_at_most}
+use Rattle.decimal.proofs.Texts.{natural_short, whole_short}
 use Rattle.line.specs.Line.{value_rest, refusal_rest}
 
 pub value_short : (letter : ℕ) (y z v : ℤ) → nat_abs y < 10 ^ 19 → nat_abs z < 10 ^ 19 → nat_abs v < 10 ^ 19 → length (value_rest letter y z v) ≤ 66
@@ -20,11 +19,11 @@ value_short letter y z v a b c =
       length-append (whole y) (32 ∷ u),
       length-append (whole z) (32 ∷ t),
       length-append (whole v) (10 ∷ []),
-      whole_at_most 18 y a,
-      whole_at_most 18 z b,
-      whole_at_most 18 v c,
+      whole_short y a,
+      whole_short z b,
+      whole_short v c,
     )
 
 pub refusal_short : (n : ℕ) → n < 10 ^ 19 → length (refusal_rest n) ≤ 66
 unfolding refusal_rest
-refusal_short n h = omega (arith, length-append (natural n) (10 ∷ []), at_most 18 n h)
+refusal_short n h = omega (arith, length-append (natural n) (10 ∷ []), natural_short n h)

@@ -1,16 +1,12 @@
 -- Document 01, Listing program: one line. A space is 32, ! is 33, ? is 63, a newline is 10.
-use Rattle.std.specs.Prelude.{List, [], ◌∷◌, ◌++◌, ℕ, ℤ, length, replicate}
+use Rattle.std.specs.Prelude.{List, [], ◌∷◌, ◌++◌, ℕ, ℤ}
 use Rattle.std.proofs.Math.Option.{Option, none, some}
 use Rattle.air.specs.declared.Logs.{Logs}
 use Rattle.air.specs.Held.{Held}
 use Rattle.decimal.specs.Decimal.{natural, whole}
 use Rattle.name.specs.Spelling.{spelled}
 use Rattle.name.specs.Name.{name_of}
-use Rattle.octets.specs.Room.{Text, text, refused, written}
-use Rattle.octets.specs.declared.Outcome.{Outcome}
-use Rattle.octets.specs.declared.Outcome.TheVariants.{Done, Refused}
-use Rattle.line.specs.declared.Line.{Line}
-use Rattle.line.specs.declared.Shown.{Shown}
+use Rattle.octets.specs.Room.{Text, text, refused}
 
 -- a name as a line shows it: its written spelling, or ? where a spelling reads to no name
 abbrev pub shown_name : Text → List ℕ
@@ -42,15 +38,3 @@ line spelling h = line_of (shown_name (name_of spelling)) h
 -- every line fits in so many bytes: EAS_LINE_ROOM of the header
 abbrev pub line_room : ℕ
 line_room = 192
-
--- a shown name and a line stand at the start of an array of zeros
-abbrev pub shown_held : List ℕ → Shown
-shown_held t = record { bytes = written (text t) (replicate 120 0); len = length t }
-
-abbrev pub line_held : List ℕ → Line
-line_held t = record { bytes = written (text t) (replicate line_room 0); len = length t }
-
--- how many bytes became of a text
-abbrev pub length_of : Outcome → ℕ
-length_of (Done n) = n
-length_of (Refused n) = 0
