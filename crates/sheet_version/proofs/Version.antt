@@ -8,6 +8,9 @@ use native.Mathlib.Omega.{arith}
 use borrow.Author.Tests.{eq-eqb, ne_eqb, eqb-true, eqb-false}
 use lib.Dec.{eqb, ltb}
 use lib.ListN.{length}
+use Rattle.refusal.specs.declared.Refusal.{Refusal}
+use Rattle.refusal.specs.Numbered.{number_for}
+use Rattle.refusal.proofs.Apart.{never_zero}
 use Rattle.octets.specs.Bytes.{number_at}
 use Rattle.sheet_record.specs.Layout.{Layout, layout_of}
 use Rattle.sheet_record.specs.declared.Record.{Record}
@@ -16,6 +19,10 @@ use Rattle.sheet.specs.Sheet.{refused, records, with_layout, sheet_by, sheet_of,
 use Rattle.sheet.proofs.Accept.{number_head, headed, accepted_head}
 use Rattle.sheet.proofs.Counted.{accepted_records, accepted_count, accepted_few}
 use Rattle.sheet_version.specs.Version.{sheet_in}
+
+-- the version can be read
+pub five : (s : List ℕ) → 0 ≡ head_fault s → 5 ≤ length s
+five s h = let l = (headed s (sym h)).least in omega arith
 
 module _ (v : ℕ) (s : List ℕ) where
   pub in_same : number_at 2 s 3 ≡ v → sheet_in v s ≡ sheet_of s
@@ -63,6 +70,17 @@ module _ (v : ℕ) (s : List ℕ) where
       go true b e = absurd (omega arith)
       go false true e = absurd (omega arith)
       go false false e = refl
+
+  -- the same by the names of the refusals
+  pub head_refused : (r : Refusal) → number_for r ≡ head_fault s → number_for r ≡ number_of (sheet_in v s)
+  head_refused r e = e ∙ in_head (λ z. let h = never_zero r in omega arith)
+
+  pub other_refused : 0 ≡ head_fault s → (number_at 2 s 3 ≡ v → ⊥) → 3 ≡ number_of (sheet_in v s)
+  other_refused h z = sym (in_three (sym h) z)
+
+  -- a sheet of the version has its own number
+  pub number_same : number_at 2 s 3 ≡ v → number_of (sheet_of s) ≡ number_of (sheet_in v s)
+  number_same e = sym (ap number_of (in_same e))
 
   -- a sheet that is accepted as one of a version is of that version, and accepted
   pub in_version_lem : number_of (sheet_in v s) ≡ 0 → (number_at 2 s 3 ≡ v) × Accepted s

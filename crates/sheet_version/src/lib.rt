@@ -1,39 +1,45 @@
 // The state sheet where one version is read.
 #![tactic(auto)]
 
-ghost use Rattle.std.specs.Prelude.{◌≡◌};
-ghost use Rattle.sheet.specs.Index.{Blank, Indexed};
+ghost use Rattle.std.specs.Prelude.{◌≡◌, IfOk, MatchResult};
+ghost use Rattle.refusal.specs.Numbered.{number_for, number_or_0};
+ghost use Rattle.octets.specs.Bytes.{number_at};
+ghost use Rattle.distinct.specs.Chain.{Blank};
 ghost use Rattle.sheet.specs.Sheet.{number_of};
 ghost use Rattle.sheet_version.specs.Version.{sheet_in};
 
-// The number of the first condition that refuses a sheet of a version, or 0. Where it is 0, the lent arrays become the sheet's index.
-pub fn index(
-    s: &[u8],
-    version: u64,
-    starts: &mut [u16; 3449],
-    heads: &mut [u16; 4096],
-    next: &mut [u16; 3449],
-) -> u32
-    requires { Blank starts.old heads.old next.old }
-    ensures value { result ≡ number_of (sheet_in version s.now) }
-    ensures indexed { result ≡ 0 → Indexed s.now starts.new heads.new next.new }
+use distinct::Index;
+use refusal::Refusal;
+use sheet::Sheet;
+
+// Whether a sheet's header is refused, or its version is another.
+#[tactic(auto, using(crate::proofs::Version::head_refused, crate::proofs::Version::other_refused, crate::proofs::Version::five))]
+fn check_version(s: &[u8], version: u64) -> Result<(), Refusal>
+    ensures { MatchResult result (λ _. number_at 2 s.now 3 ≡ version) (λ r. number_for r ≡ number_of (sheet_in version s.now)) }
 {
-    let head = sheet_head::head_fault(s);
-    if head != 0 {
-        return head;
-    }
+    sheet_head::check(s)?;
     if sheet_record::number(s, 3, 2) != version {
-        return 3;
+        return Err(Refusal::UnknownVersion);
     }
-    sheet::index(s, starts, heads, next)
+    Ok(())
 }
 
-// The number of the first condition that refuses a sheet of a version, or 0.
-pub fn check(s: &[u8], version: u64) -> u32
-    ensures { result ≡ number_of (sheet_in version s.now) }
+// The first condition that refuses a sheet of a version, or the sheet with its index in the room.
+#[tactic(auto, using(crate::proofs::Version::number_same))]
+pub fn index<'a>(bytes: &'a [u8], version: u64, room: &'a mut Index) -> Result<Sheet<'a>, Refusal>
+    requires { Blank room.old }
+    ensures value { number_or_0 result ≡ number_of (sheet_in version bytes.now) }
+    ensures sheet { IfOk result (λ t. t ≡ bytes.now) }
 {
-    let mut starts = distinct::no_links();
-    let mut heads = distinct::no_heads();
-    let mut next = distinct::no_links();
-    index(s, version, &mut starts, &mut heads, &mut next)
+    check_version(bytes, version)?;
+    sheet::index(bytes, room)
+}
+
+// The first condition that refuses a sheet of a version, if any does.
+#[tactic(auto, using(crate::proofs::Version::number_same))]
+pub fn check(s: &[u8], version: u64) -> Result<(), Refusal>
+    ensures { number_or_0 result ≡ number_of (sheet_in version s.now) }
+{
+    check_version(s, version)?;
+    sheet::check(s)
 }
