@@ -6,7 +6,8 @@
 
 ghost use Rattle.std.specs.Prelude.{◌≡◌, ◌+◌, ◌*◌, ◌<◌, ◌≤◌, nat_abs, get_or};
 ghost use Rattle.weight.specs.Weight.{tolerance, IsWeight, IsMinusWeight};
-ghost use Rattle.weight.specs.Choice.{scale, wholes, sixteenths, inverse, exponential, portion, weight_of, minus_of, above_by, FarEnough};
+ghost use Rattle.weigh.specs.Signs.{is_minus, sign_of};
+ghost use Rattle.weight.specs.Choice.{scale, wholes, sixteenths, inverse, exponential, portion, weight_of, minus_of, above_by, FarEnough, weight_by, Served};
 
 // scale / e^n, rounded up.
 fn whole(n: u64) -> u64
@@ -77,6 +78,7 @@ fn inverse_at(i: u64) -> u64
 }
 
 // scale * e^r: the terms 0 to 6, the later ones from the square of r so that few wait for each other.
+#[tactic(auto, unfolding(weight::specs::Choice::square, weight::specs::Choice::second, weight::specs::Choice::third, weight::specs::Choice::fourth, weight::specs::Choice::fifth, weight::specs::Choice::sixth, weight::specs::Choice::exponential))]
 fn exponential_of(r: u64) -> u64
     requires { r < 625000000 }
     ensures { result ≡ exponential r }
@@ -99,20 +101,41 @@ fn portion_of(c: u64, g: u64) -> u64
     c * 100000000 / ((g + 50) / 100)
 }
 
+// Whether one plus or one minus the exponential is divided by.
+#[derive(Clone, Copy)]
+enum Sign {
+    Plus,
+    Minus,
+}
+
 // The weight at u units: c / (c + v). Of a minus transition 10^10 / (e^u - 1): c / (v - c).
-fn above(u: u64, minus: bool) -> u64
-    requires { FarEnough minus u }
-    ensures { result ≡ above_by minus u }
+fn above(sign: Sign, u: u64) -> u64
+    requires { FarEnough (is_minus sign) u }
+    ensures { result ≡ above_by (is_minus sign) u }
 {
     if u >= 240000000000 {
         return 0;
     }
     let c = inverse_at(u / 625000000);
     let v = exponential_of(u % 625000000);
-    if minus {
-        return portion_of(c, v - c);
+    match sign {
+        Sign::Plus => portion_of(c, c + v),
+        Sign::Minus => portion_of(c, v - c),
     }
-    portion_of(c, c + v)
+}
+
+// The weight at q units, by the size of q.
+fn weight_at(sign: Sign, q: i64) -> i64
+    requires { Served (sign_of sign) q }
+    ensures { result ≡ weight_by (sign_of sign) q }
+{
+    let size = above(sign, q.unsigned_abs()) as i64;
+    match sign {
+        Sign::Plus if q < 0 => 10000000000 - size,
+        Sign::Plus => size,
+        Sign::Minus if q < 0 => 10000000000 + size,
+        Sign::Minus => -size,
+    }
 }
 
 // The weight at q units of 10^-10.
@@ -120,12 +143,7 @@ pub fn weight(q: i64) -> i64
     ensures value { result ≡ weight_of q }
     ensures weight { IsWeight tolerance q result }
 {
-    if q < 0 {
-        let m = (-1 - q) as u64;
-        (10000000000 - above(m + 1, false)) as i64
-    } else {
-        above(q as u64, false) as i64
-    }
+    weight_at(Sign::Plus, q)
 }
 
 // The weight of a minus transition at q units of 10^-10.
@@ -134,10 +152,5 @@ pub fn weight_minus(q: i64) -> i64
     ensures value { result ≡ minus_of q }
     ensures minus_weight { IsMinusWeight tolerance q result }
 {
-    if q < 0 {
-        let m = (-1 - q) as u64;
-        (10000000000 + above(m + 1, true)) as i64
-    } else {
-        0 - above(q as u64, true) as i64
-    }
+    weight_at(Sign::Minus, q)
 }

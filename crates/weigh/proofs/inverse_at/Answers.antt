@@ -11,14 +11,8 @@ use Rattle.weigh.proofs.inverse_at.Goals as goal
 pub overflow_mul-result : goal.overflow_mul-result
 overflow_mul-result c = omega (arith, product c.args.i _ _ c.requires c.whole-a.ensures c.sixteenth-b.ensures)
 
-pub overflow_mul-result-2 : goal.overflow_mul-result-2
-overflow_mul-result-2 c = omega (arith, product c.args.i _ _ c.requires c.whole-a.ensures c.sixteenth-b.ensures)
-
 pub overflow_add-result : goal.overflow_add-result
 overflow_add-result c = omega (arith, product c.args.i _ _ c.requires c.whole-a.ensures c.sixteenth-b.ensures)
-
-pub overflow_add-result-2 : goal.overflow_add-result-2
-overflow_add-result-2 c = omega (arith, product c.args.i _ _ c.requires c.whole-a.ensures c.sixteenth-b.ensures)
 
 pub returns : goal.returns
 unfolding inverse
