@@ -1,4 +1,5 @@
 pub mod Joined
 pub mod Blocks
+pub mod Made
 pub mod Law
 pub mod Pins

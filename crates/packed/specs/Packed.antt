@@ -1,7 +1,7 @@
 -- Request 2: coefficients in less read-only memory. Of a block of numbers, memory holds words of 32 bits, signed, and a byte for each number to find it by.
-use Rattle.std.specs.Prelude.{ℕ, ◌+◌, ◌*◌, ◌/◌, ◌%◌, ◌<◌, Bool, true, cond, ◌&&◌, List, [], ◌∷◌, ◌++◌, ◌≡◌, T, ltb, eqb, ℤ, pos, negsuc, ◌+ℤ◌, ◌-ℤ◌, ◌*ℤ◌, get_or, length, take}
+use Rattle.std.specs.Prelude.{ℕ, ◌+◌, ◌*◌, ◌/◌, ◌%◌, Bool, true, cond, ◌&&◌, List, [], ◌∷◌, ◌++◌, ◌≡◌, T, ltb, eqb, ℤ, pos, negsuc, ◌+ℤ◌, ◌-ℤ◌, ◌*ℤ◌, get_or, length, take}
 use Rattle.std.specs.Int.Signed.{le_z, lt_z, shr_z}
-use Rattle.quotient.specs.Range.{In, AllIn}
+use Rattle.quotient.specs.Range.{AllIn}
 
 -- ---- what is read back
 abbrev pub word_at : List ℤ → ℕ → ℤ
@@ -44,26 +44,19 @@ unfoldable pub bytes_from : ℕ → List ℤ → List ℕ
 bytes_from place [] = []
 bytes_from place (k ∷ ks) = cond (is_narrow k) ((2 * place) ∷ bytes_from (place + 1) ks) ((2 * place + 1) ∷ bytes_from (place + 2) ks)
 
--- ---- blocks that the code takes: tests that compute at lists that are written out
+-- ---- blocks: tests that compute at lists that are written out
 -- every byte finds its words among the first n
 abbrev pub all_found : ℕ → List ℕ → Bool
 all_found n [] = true
 all_found n (byte ∷ bytes) = ltb (place_of byte + byte % 2) n && all_found n bytes
 
--- a block of n numbers, packed as above; words behind them, which no byte finds, fill an array up
-pub record Block (n : ℕ) (bytes : List ℕ) (words : List ℤ) : Type 0 where
+-- bytes and words are the packing of n numbers, as above; words behind them, which no byte finds, fill an array up
+pub record IsPacked (n : ℕ) (bytes : List ℕ) (words : List ℤ) : Type 0 where
   pub count : length bytes ≡ n
   pub found : T (all_found (length words) bytes)
   pub words_in : AllIn 31 words
   pub bytes_are : bytes ≡ bytes_from 0 (unpacked bytes words)
   pub words_are : take (length (words_of (unpacked bytes words))) words ≡ words_of (unpacked bytes words)
-
--- what the code asks to read the i-th number
-pub record Reads (bytes : List ℕ) (words : List ℤ) (i : ℕ) : Type 0 where
-  pub index : i < length bytes
-  pub found : place_of (get_or bytes i 0) + get_or bytes i 0 % 2 < length words
-  pub words_in : AllIn 31 words
-  pub size : In 62 (number_at words (get_or bytes i 0))
 
 -- ---- the law of the reader: whatever numbers are packed, and whatever stands behind them, they are read back
 abbrev pub ReadsBack : Type 0

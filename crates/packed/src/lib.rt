@@ -1,25 +1,29 @@
 // Coefficients packed into words of 32 bits: reading one back.
 #![tactic(auto)]
 
-ghost use Rattle.std.specs.Prelude.{◌≡◌, get_or};
-ghost use Rattle.packed.specs.Packed.{number_at, Reads};
+ghost use Rattle.std.specs.Prelude.{◌≡◌, ◌<◌, pos, get_or};
+ghost use Rattle.quotient.specs.Range.{AllIn};
+ghost use Rattle.packed.specs.Packed.{unpacked, IsPacked};
 
-// A word as a number of 64 bits.
-fn widened(word: i32) -> i64
-    ensures { result ≡ word }
-{
-    word as i64
+// A block of N numbers below 2^62: their words, filled up to W, and a byte for each number to find its own by.
+pub struct Block<const N: usize, const W: usize> {
+    pub bytes: [u8; N],
+    pub words: [i32; W],
+    ghost packed: { IsPacked N bytes words },
+    ghost sized: { AllIn 62 (unpacked bytes words) },
 }
 
-// The i-th number of a block. Narrow or wide, two words are read and joined by one sum, without a branch.
-pub fn number(bytes: &[u8], words: &[i32], i: usize) -> i64
-    requires { Reads bytes.now words.now i }
-    ensures { result ≡ number_at words.now (get_or bytes.now i 0) }
-{
-    let byte = bytes[i] as usize;
-    let at = byte / 2;
-    let wide = byte % 2;
-    let lower = widened(words[at]);
-    let upper = widened(words[at + wide]) * wide as i64;
-    lower + upper * 4294967296
+impl<const N: usize, const W: usize> Block<N, W> {
+    // The i-th number. Narrow or wide, two words are read and joined by one sum, without a branch.
+    pub fn number(&self, i: usize) -> i64
+        requires { i < N }
+        ensures { result ≡ get_or (unpacked self.now.bytes self.now.words) i (pos 0) }
+    {
+        let byte = usize::from(self.bytes[i]);
+        let at = byte / 2;
+        let wide = byte % 2;
+        let lower = i64::from(self.words[at]);
+        let upper = i64::from(self.words[at + wide]) * wide as i64;
+        lower + upper * 4294967296
+    }
 }
