@@ -8,8 +8,12 @@ use borrow.Author.Tests.{le-ltb, ltb-true}
 use lib.Dec.{T, ltb, leb, leb→le}
 use lib.IntN.{ℤ, pos, negsuc}
 use Rattle.weight.specs.Weight.{units}
-use Rattle.weight.specs.Choice.{or_zero, share, inverse, exponential, weight_above, weight_of}
+use Rattle.weight.specs.Choice.{or_zero, share, inverse, exponential, weight_above, weight_of, weight_by}
+use Rattle.fit.specs.declared.Form.{Form}
+use Rattle.fit.specs.declared.Form.TheVariants.{Plus, Kept}
 use Rattle.fit.specs.Fit.{kept_in}
+use Rattle.fit.specs.Edge.{sign_of, limit_of}
+use mathlib.Core.Logic.{◌⊎◌, inl, inr}
 
 far : (u : ℕ) → 240000000000 ≤ u → weight_above u ≡ 0
 unfolding weight_above
@@ -38,3 +42,8 @@ pub same_kept : (l : Option ℕ) → T (is_far l) → (q : ℤ) → weight_of (k
 same_kept none t q = refl
 same_kept (some zero) t q = absurd t
 same_kept (some (suc m)) t q = same_within m (leb→le 240000000000 (suc m) t) q
+
+-- so a plus transition has the weight of its exponent, kept or not
+pub plus_kept : (f : Form) (q : ℤ) → (f ≡ Plus) ⊎ (f ≡ Kept) → weight_of q ≡ weight_by (sign_of f) (kept_in (limit_of f) q)
+plus_kept f q (inl e) = rw e refl
+plus_kept f q (inr e) = rw e (sym (same_kept (limit_of Kept) tt q))

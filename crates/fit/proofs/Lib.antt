@@ -7,4 +7,3 @@ pub mod Box
 pub mod Corners
 pub mod Distance
 pub mod Pieces
-pub mod Arms

@@ -5,7 +5,8 @@ use Rattle.fit.specs.declared.Edge.{Edge}
 use Rattle.fit.specs.declared.Form.{Form}
 use Rattle.fit.specs.declared.Form.TheVariants.{Plus, Minus, Kept}
 use Rattle.quotient.specs.Range.{In, AllIn}
-use Rattle.packed.specs.Packed.{unpacked}
+use Rattle.packed.specs.declared.Block.{Block}
+use Rattle.packed.specs.Numbers.{numbers}
 use Rattle.bicubic.specs.Bicubic.{bicubic}
 use Rattle.weight.specs.Weight.{Sign, one_plus, one_minus}
 use Rattle.weight.specs.Choice.{Served}
@@ -25,12 +26,12 @@ limit_of Kept = some 300000000000
 abbrev pub transition_of : Form → List ℤ → Transition
 transition_of f q = record { sign = sign_of f; limit = limit_of f; terms = q }
 
--- the piece of packed lists: the bytes and the words of A, of B and of the exponent
-abbrev pub packed_alone : List ℕ → List ℤ → Piece
-packed_alone a aw = alone (unpacked a aw)
+-- the piece of blocks: of A, of B and of the exponent
+abbrev pub packed_alone : Block 10 19 → Piece
+packed_alone a = alone (numbers a)
 
-abbrev pub packed_joint : Form → List ℕ → List ℤ → List ℕ → List ℤ → List ℕ → List ℤ → Piece
-packed_joint f a aw b bw q qw = joint (unpacked a aw) (unpacked b bw) (transition_of f (unpacked q qw))
+abbrev pub packed_joint : Form → Block 10 19 → Block 10 19 → Block 4 8 → Piece
+packed_joint f a b q = joint (numbers a) (numbers b) (transition_of f (numbers q))
 
 -- W of a piece by a choice of weights: 0 where there is no second bicubic
 abbrev pub weight_with : (Sign → ℤ → ℤ) → Piece → ℤ → ℤ → ℤ

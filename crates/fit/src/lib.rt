@@ -3,10 +3,10 @@
 
 ghost use Rattle.std.specs.Prelude.{◌≡◌};
 ghost use Rattle.weight.specs.Choice.{weight_by, Served};
-ghost use Rattle.packed.specs.Packed.{Block};
 ghost use Rattle.fit.specs.Fit.{kept_in};
 ghost use Rattle.fit.specs.Edge.{sign_of, limit_of, packed_alone, packed_joint, edge_with, Workable};
 
+use packed::Block;
 use packed_bicubic::{bicubic_of, exponent_of};
 
 // A fit: its value G and the weight W that it was worked out with, in units of 10^-10.
@@ -25,47 +25,44 @@ pub enum Form {
     Kept,
 }
 
-// The fit of a piece that has a bicubic alone (GAS1 to GAS4), of its bytes and its words.
-pub fn alone_at(a: &[u8; 10], aw: &[i32; 19], y: i64, z: i64) -> Edge
-    requires { (Block 10 a.now aw.now) × (Workable (packed_alone a.now aw.now) y z) }
-    ensures { result ≡ edge_with weight_by (packed_alone a.now aw.now) y z }
+// The fit of a piece that has a bicubic alone (GAS1 to GAS4).
+pub fn alone_at(a: &Block<10, 19>, y: i64, z: i64) -> Edge
+    requires { Workable (packed_alone a.now) y z }
+    ensures { result ≡ edge_with weight_by (packed_alone a.now) y z }
 {
     Edge {
-        fit: bicubic_of(a, aw, y, z),
+        fit: bicubic_of(a, y, z),
         weight: 0,
     }
 }
 
 // The weight of a transition at its exponent. From 24 on a weight is 0 or 1, so that keeping an exponent changes none.
+#[tactic(auto, using(crate::proofs::Kept::plus_kept))]
 fn weight_of(form: Form, q: i64) -> i64
     requires { Served (sign_of form) (kept_in (limit_of form) q) }
     ensures { result ≡ weight_by (sign_of form) (kept_in (limit_of form) q) }
 {
     match form {
-        Form::Plus => weigh::weight(q),
+        Form::Plus | Form::Kept => weigh::weight(q),
         Form::Minus => weigh::weight_minus(q),
-        Form::Kept => weigh::weight(q),
     }
 }
 
 // The fit of a piece that has a second bicubic (b: GAS5 to GAS8) and the exponent that leads to it (q: GAS9).
 pub fn joint_at(
     form: Form,
-    a: &[u8; 10],
-    aw: &[i32; 19],
-    b: &[u8; 10],
-    bw: &[i32; 19],
-    q: &[u8; 4],
-    qw: &[i32; 8],
+    a: &Block<10, 19>,
+    b: &Block<10, 19>,
+    q: &Block<4, 8>,
     y: i64,
     z: i64,
 ) -> Edge
-    requires { (Block 10 a.now aw.now) × ((Block 10 b.now bw.now) × ((Block 4 q.now qw.now) × (Workable (packed_joint form a.now aw.now b.now bw.now q.now qw.now) y z))) }
-    ensures { result ≡ edge_with weight_by (packed_joint form a.now aw.now b.now bw.now q.now qw.now) y z }
+    requires { Workable (packed_joint form a.now b.now q.now) y z }
+    ensures { result ≡ edge_with weight_by (packed_joint form a.now b.now q.now) y z }
 {
-    let first = bicubic_of(a, aw, y, z);
-    let w = weight_of(form, exponent_of(q, qw, y, z));
-    let second = bicubic_of(b, bw, y, z);
+    let first = bicubic_of(a, y, z);
+    let w = weight_of(form, exponent_of(q, y, z));
+    let second = bicubic_of(b, y, z);
     Edge {
         fit: proportion::fitted(first, w, second),
         weight: w,
