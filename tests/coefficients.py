@@ -83,18 +83,18 @@ def spec_lists(kind):
 
 
 def code_lists(kind):
-    """name of a definition that a function ensures, to the numbers of the block that it lends for it; every array is lent once"""
+    """name of a definition that a function ensures, to the numbers of the block that it lends for it; every block is lent once"""
     source = CRATES / TABLES[kind][0] / "src"
-    text, arrays = (source / "lib.rt").read_text(), blocks.arrays(source / "blocks.rt")
+    text, packed = (source / "lib.rt").read_text(), blocks.blocks(source / "blocks.rt")
     lists, lent = {}, []
     function = r"^fn .*\n    requires .*\n    ensures \{ result ≡ (.*) \}\n\{\n((?: .*\n)*)\}"
     for ensured, body in re.findall(function, text, re.M):
         names, lends = re.findall(r"\w+_[abqn]\b", ensured), re.findall(r"&blocks::(\w+)", body)
-        for name, places, words in zip(names, lends[::2], lends[1::2], strict=True):
-            same(f"{source}: the block of {name}", (name in lists, arrays[places][0], arrays[words][0]), (False, "u8", "i32"))
-            lists[name] = blocks.numbers(arrays[places][1], arrays[words][1])
+        for name, block in zip(names, lends, strict=True):
+            same(f"{source}: {name} is lent before", name in lists, False)
+            lists[name] = blocks.numbers(*packed[block])
         lent += lends
-    same(f"{source}: the arrays that are lent", sorted(lent), sorted(arrays))
+    same(f"{source}: the blocks that are lent", sorted(lent), sorted(packed))
     same(f"{source}: the places that name one", len(re.findall(r"\bblocks::", text)), len(lent))
     return lists
 
@@ -111,7 +111,7 @@ def tight(what, places, words):
 
 
 def packing():
-    """every block is as small as it can be, an array only as long as the longest of its kind needs"""
+    """every block is as small as it can be, with room only for the words of the longest of its kind"""
     needed, lengths = {}, {}
     for kind, (crate, _) in TABLES.items():
         file, size = CRATES / crate / "src" / "blocks.rt", 0
@@ -121,7 +121,7 @@ def packing():
             needed[len(places)] = max(count, needed.get(len(places), 0))
             lengths.setdefault(len(places), set()).add(len(words))
         same(f"{file}: bytes of all numbers", size, SIZES[kind])
-    same("lengths of the arrays of words", lengths, {numbers: {count} for numbers, count in needed.items()})
+    same("lengths of the words", lengths, {numbers: {count} for numbers, count in needed.items()})
     told = subprocess.run([sys.executable, ROOT / "tests" / "listing" / "pack.py"], capture_output=True, check=True).stdout
     same("the entropy's blocks, as pack.py prints them", (CRATES / TABLES["entropy"][0] / "src" / "blocks.rt").read_bytes() == told, True)
 

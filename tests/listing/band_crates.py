@@ -1,5 +1,5 @@
 """python3 tests/listing/band_crates.py [--write]: the crates of the listings' bands, printed whole from the numerals of tests/listing: definitions,
-code, packed blocks and proofs. Without --write each must stand in crates/ as it is printed here. Must-fail edits beside them are written
+code, packed blocks and the test of their sizes. Without --write each must stand in crates/ as it is printed here. Must-fail edits beside them are written
 by hand.
 
 A band is a list of pieces with an end each but the last. A piece is a constant, a bicubic, or two of them and a transition's exponent.
@@ -31,11 +31,6 @@ def number(numeral):
     """a coefficient as definitions write it"""
     units = pack.units(numeral)
     return f"{'m' if units < 0 else 'p'} {abs(units) // 10**10}_{abs(units) % 10**10:010d}"
-
-
-def before(count):
-    """the start of a function's proof, so many steps back"""
-    return "c" + ".before" * count
 
 
 @dataclass
@@ -90,8 +85,8 @@ class Piece:
         )
         name = self.name.upper()
         if "B" not in self.parts():
-            return head + f"{{\n    fit::alone_at(&blocks::{name}_A_BYTES, &blocks::{name}_A, y, z)\n}}\n"
-        lent = [f"&blocks::{name}_{part.upper()}{which}" for part in self.parts() for which in ("_BYTES", "")]
+            return head + f"{{\n    fit::alone_at(&blocks::{name}_A, y, z)\n}}\n"
+        lent = [f"&blocks::{name}_{part.upper()}" for part in self.parts()]
         return head + "{\n    fit::joint_at(\n" + "".join(f"        {a},\n" for a in (f"Form::{self.variant()}", *lent, "y", "z")) + "    )\n}\n"
 
     def blocks(self):
@@ -100,32 +95,6 @@ class Piece:
             numbers = [pack.units(n) for name in names for n in self.rows[name]]
             text.append(pack.block(self.label, f"{self.name.upper()}_{part.upper()}", names, numbers))
         return text
-
-    def proof(self, crate):
-        """its function lends the listing's numbers"""
-        calls = "joint_at" if "B" in self.parts() else "alone_at"
-        steps = 2 * len(self.parts())
-        block = "block refl tt tt refl refl"
-        if steps == 6:
-            taken = f" in (\n      {block},\n      ({block}, ({block}, rw (back s.ranges.y, back s.ranges.z) s.requires)),\n    )"
-        else:
-            taken = f" in\n    ({block}, rw (back s.ranges.y, back s.ranges.z) s.requires)"
-        return f"""-- `{crate}::{self.name}` lends the listing's numbers: read back, they are its lists.
-use mathlib.Core.Path.{{refl}}
-use Rattle.integer.proofs.Machine.{{back}}
-use Rattle.packed.specs.Packed.{{unpacked, bytes_from, words_of}}
-use Rattle.packed.proofs.Blocks.{{block}}
-use Rattle.{crate}.proofs.{self.name}.Goals as goal
-
-pub {calls}-requires : goal.{calls}-requires
-unfolding unpacked bytes_from words_of
-{calls}-requires c =
-    let s = {before(steps)}{taken}
-
-pub returns : goal.returns
-unfolding unpacked
-returns c = let s = {before(steps + 1)} in rw (back s.ranges.y, back s.ranges.z) at c.{calls}.ensures
-"""
 
 
 @dataclass
@@ -190,8 +159,10 @@ abbrev pub {band}_piece : ℤ → Piece
     def code(self):
         lists = [f"{piece.name}_{part.lower()}" for piece in self.lent() for part in piece.parts()]
         arms = "".join(f"    if z <= {piece.end()} {{\n        return {self.arm(piece)};\n    }}\n" for piece in self.pieces[:-1])
+        packing = ", ".join(f"packed::specs::Packed::{name}" for name in ("unpacked", "bytes_from", "words_of"))
+        constant = "using(bicubic::proofs::Constant::constant_is), " if self.pieces[0].constant() else ""
         return f"""// {self.what}'s coefficients of the {self.band} band in {self.routine}, packed: the fit of the piece that Z chooses.
-#![tactic(auto)]
+#![tactic(auto, unfolding({packing}))]
 
 mod blocks;
 
@@ -204,6 +175,7 @@ ghost use Rattle.{self.crate}.specs.Pieces.{{{", ".join([f"{self.band}_piece", *
 use fit::{{Edge, Form}};
 
 // {self.what}'s fit of the {self.band} band.
+#[tactic(auto, {constant}unfolding(crate::specs::Pieces::{self.band}_pieces))]
 pub fn {self.function}(y: i64, z: i64) -> Edge
     requires {{ Workable ({self.band}_piece z) y z }}
     ensures {{ result ≡ edge_with weight_by ({self.band}_piece z) y z }}
@@ -214,8 +186,8 @@ pub fn {self.function}(y: i64, z: i64) -> Edge
 """ + "\n".join(piece.code() for piece in self.lent())
 
     def blocks(self):
-        title = f"// {self.routine}'s {self.what.lower()}, {self.band} band, packed: of each block the bytes and the words."
-        return "\n".join([f"{title} tests/listing/band_crates.py prints this file.\n", *(block for piece in self.lent() for block in piece.blocks())])
+        title = f"{self.routine}'s {self.what.lower()}, {self.band} band, packed. tests/listing/band_crates.py prints this file."
+        return pack.file(title, [block for piece in self.lent() for block in piece.blocks()])
 
     def small(self):
         band = self.band
@@ -235,84 +207,15 @@ pub piece_small : (z : ℤ) → Small ({band}_piece z)
 piece_small z = small_in {band}_pieces table_small (index_in {band}_ends z)
 """
 
-    def above(self, k, last):
-        """the tests that were passed on the way to the k-th, or past it"""
-        return [f"above_{j} {before(k - j)}" for j in range(1, k + last)]
-
-    def indices(self):
-        text = ["-- ---- Z is above an end that was passed"]
-        for k, end in enumerate(self.ends(), 1):
-            text.append(f"above_{k} : (c : Else-z-le{end}) → le_z c.args.z (pos {end}) ≡ false")
-            text.append(f"above_{k} c = let t = rw (back c.ranges.z) at c.if-z-le{end}.false in omega tests\n")
-        text.append("-- ---- the piece's index, where a test holds and behind the last")
-        for k, end in enumerate(self.ends(), 1):
-            facts = [*self.above(k, 0), "below"]
-            text.append(f"""index_{k} : (c : Then-z-le{end}) → index_in {self.band}_ends c.args.z ≡ {k - 1}
-index_{k} c =
-    let t = rw (back c.ranges.z) at c.if-z-le{end}.true in
-    let below : le_z c.args.z (pos {end}) ≡ true = omega tests in
-    simp {facts[0] if k == 1 else f"({', '.join(facts)})"}
-""")
-        k = len(self.ends())
-        text.append(f"index_{k + 1} : (c : Else-z-le{end}) → index_in {self.band}_ends c.args.z ≡ {k}")
-        text.append(f"index_{k + 1} c = simp ({', '.join(self.above(k, 1))})\n")
-        return "\n".join(text)
-
-    def arms(self):
-        """the facts of each piece's arm"""
-        band, text = self.band, []
-        for i, (piece, end) in enumerate(zip(self.pieces, [*self.ends(), None])):
-            returns = f"returns-then-z-le{end}" if end else "returns"
-            steps = min(i + 1, len(self.ends()))
-            if piece.constant():
-                text.append(f"""pub {returns} : goal.{returns}
-unfolding {band}_pieces
-{returns} c = let s = {before(steps)} in rw (index_{i + 1} c, constant_is _ s.args.y s.args.z)
-""")
-                continue
-            takes = f"{piece.name}-requires"
-            same = f"same_piece {band}_pieces"
-            text.append(f"""pub {takes} : goal.{takes}
-unfolding {band}_pieces
-{takes} c = let s = {before(steps)} in arm_takes ({same} (index_{i + 1} c)) s.ranges.y s.ranges.z s.requires
-
-pub {returns} : goal.{returns}
-unfolding {band}_pieces
-{returns} c = let s = {before(steps + 1)} in arm_gives ({same} (index_{i + 1} c.before)) s.ranges.y s.ranges.z c.{piece.name}.ensures
-""")
-        return "\n".join(text)
-
-    def chosen(self):
-        constant = "use Rattle.bicubic.proofs.Constant.{constant_is}\n" if self.pieces[0].constant() else ""
-        places = sorted(f"{place}-z-le{end}" for place in ("Then", "Else") for end in self.ends())
-        return f"""-- `{self.crate}::{self.function}` meets its contract: each arm has the piece that Z chooses.
-use mathlib.Core.Bool.{{true, false}}
-use mathlib.Core.Path.{{◌≡◌}}
-use lib.IntN.{{pos}}
-use lib.Signed.{{le_z}}
-use Rattle.integer.proofs.Machine.{{back}}
-{constant}use Rattle.bands.specs.Units.{{index_in}}
-use Rattle.bands.proofs.Tests.{{tests}}
-use Rattle.fit.proofs.Arms.{{same_piece, arm_takes, arm_gives}}
-use Rattle.{self.crate}.specs.Pieces.{{{self.band}_ends, {self.band}_pieces}}
-use Rattle.{self.crate}.proofs.{self.function}.Goals as goal
-use Rattle.{self.crate}.proofs.{self.function}.Goals.{{{", ".join(places)}}}
-
-{self.indices()}
--- ---- the arms
-{self.arms()}"""
-
     def files(self):
-        files = {
+        return {
             "specs/Lib.antt": "pub mod Pieces\n",
             "specs/Pieces.antt": self.definitions(),
             "src/lib.rt": self.code(),
             "src/blocks.rt": self.blocks(),
             "proofs/Lib.antt": "pub mod Pieces\n",
             "proofs/Pieces.antt": self.small(),
-            f"proofs/{self.function}/Answers.antt": self.chosen(),
         }
-        return files | {f"proofs/{piece.name}/Answers.antt": piece.proof(self.crate) for piece in self.lent()}
 
 
 # a listing: its numerals, the crates' name, the routine, what it gives, the function's name, and the labels of each band's pieces

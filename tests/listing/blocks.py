@@ -1,4 +1,4 @@
-"""Reads packed blocks by itself, without the packing of pack.py: the arrays of a crate's src/blocks.rt, and the numbers in them.
+"""Reads packed blocks by itself, without the packing of pack.py: the blocks of a crate's src/blocks.rt, and the numbers in them.
 
 A block has a byte for each of its numbers: twice the place of the number's first word, and 1 more where it has two words. A
 number is its word, or its lower word + its upper word * 2^32."""
@@ -6,30 +6,23 @@ number is its word, or its lower word + its upper word * 2^32."""
 import re
 import sys
 
-RANGES = {"u8": range(2**8), "i32": range(-(2**31), 2**31)}
-
-
-def arrays(file):
-    """name of an array, to the type of its elements and the elements"""
-    text = file.read_text()
-    found = {}
-    for name, kind, length, body in re.findall(r"^pub const (\w+): \[(u8|i32); (\d+)\] = \[([^\]]*)\];$", text, re.M):
-        elements = [int(e) for e in body.split(",") if e.strip()]
-        if name in found or len(elements) != int(length) or any(e not in RANGES[kind] for e in elements):
-            sys.exit(f"{file}: {name} stands twice, has {len(elements)} elements or one beyond {kind}")
-        found[name] = kind, elements
-    if len(found) != len(re.findall(r"\bconst\b", text)):
-        sys.exit(f"{file}: a constant is no array of bytes or words")
-    return found
+BLOCK = r"^pub const (\w+): Block<(\d+), (\d+)> = Block \{\n    bytes: \[([^\]]*)\],\n    words: \[([^\]]*)\],\n\};$"
+BYTES, WORDS = range(2**8), range(-(2**31), 2**31)
 
 
 def blocks(file):
     """name of a block, to its bytes and its words"""
-    found = arrays(file)
-    words = {name: elements for name, (kind, elements) in found.items() if kind == "i32"}
-    if sorted(found) != sorted([*words, *(f"{name}_BYTES" for name in words)]):
-        sys.exit(f"{file}: a block lacks its bytes or its words")
-    return {name: (found[f"{name}_BYTES"][1], elements) for name, elements in words.items()}
+    text = file.read_text()
+    found = {}
+    for name, *lengths, places, words in re.findall(BLOCK, text, re.M):
+        places, words = ([int(e) for e in body.split(",") if e.strip()] for body in (places, words))
+        beyond = [n for n in places if n not in BYTES] + [n for n in words if n not in WORDS]
+        if name in found or [len(places), len(words)] != [*map(int, lengths)] or beyond:
+            sys.exit(f"{file}: {name} stands twice, has other lengths than it says, or {beyond} in no byte or word")
+        found[name] = places, words
+    if len(found) != len(re.findall(r"\bconst\b", text)):
+        sys.exit(f"{file}: a constant is no block")
+    return found
 
 
 def numbers(places, words):

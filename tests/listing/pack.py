@@ -49,35 +49,41 @@ def printed(file):
     return rows
 
 
-def laid_out(words):
+def laid_out(numbers, indent):
     """an array as rt fmt has it: on one line where its numbers take 60 characters or fewer, else in lines of at most 100 where each
     number has 10 at the most, else a number a line"""
-    line = f"[{', '.join(map(str, words))}]"
+    line = f"[{', '.join(map(str, numbers))}]"
     if len(line) - 2 <= 60:
         return line
     lines = [""]
-    for word in words:
-        if lines[-1] and (max(len(str(w)) for w in words) > 10 or len(f"    {lines[-1]} {word},") > 100):
+    for number in numbers:
+        if lines[-1] and (max(len(str(n)) for n in numbers) > 10 or len(f"{indent}    {lines[-1]} {number},") > 100):
             lines.append("")
-        lines[-1] += f" {word}," if lines[-1] else f"{word},"
-    return "[\n" + "".join(f"    {line}\n" for line in lines) + "]"
+        lines[-1] += f" {number}," if lines[-1] else f"{number},"
+    return "[\n" + "".join(f"{indent}    {line}\n" for line in lines) + f"{indent}]"
 
 
 def block(label, name, statements, numbers):
-    """the two arrays of a block, below the label and the statements that it has"""
+    """a block, below the label and the statements that it has"""
     places, words = packed(numbers)
     words += [0] * (ROOM[len(numbers)] - len(words))
     return f"""// Label {label}, {statements[0]}{" to " + statements[-1] if len(statements) > 1 else ""}.
-pub const {name}_BYTES: [u8; {len(places)}] = [{", ".join(map(str, places))}];
-
-pub const {name}: [i32; {len(words)}] = {laid_out(words)};
+pub const {name}: Block<{len(places)}, {len(words)}> = Block {{
+    bytes: {laid_out(places, "    ")},
+    words: {laid_out(words, "    ")},
+}};
 """
+
+
+def file(title, texts):
+    """src/blocks.rt, below its title"""
+    return "\n".join([f"// {title}\n\nuse packed::Block;\n", *texts])
 
 
 def main():
     rows = printed(Path(__file__).parent / "entropy.txt")
-    print("// TGAS2's entropy, packed: of each block the bytes and the words. tests/listing/pack.py prints this file.\n")
-    print("\n".join(block(label, name, FIRST, [n for s in FIRST for n in rows[label, s]]) for label, name in ENTROPY.items()), end="")
+    texts = [block(label, name, FIRST, [n for s in FIRST for n in rows[label, s]]) for label, name in ENTROPY.items()]
+    print(file("TGAS2's entropy, packed. tests/listing/pack.py prints this file.", texts), end="")
 
 
 if __name__ == "__main__":

@@ -1,5 +1,5 @@
 // Gamma's coefficients of the high band in TGAS1, packed: the fit of the piece that Z chooses.
-#![tactic(auto)]
+#![tactic(auto, unfolding(packed::specs::Packed::unpacked, packed::specs::Packed::bytes_from, packed::specs::Packed::words_of))]
 
 mod blocks;
 
@@ -12,6 +12,7 @@ ghost use Rattle.tgas1_gamma_high.specs.Pieces.{high_piece, high2_a, high3_a, hi
 use fit::{Edge, Form};
 
 // Gamma's fit of the high band.
+#[tactic(auto, using(bicubic::proofs::Constant::constant_is), unfolding(crate::specs::Pieces::high_pieces))]
 pub fn gamma(y: i64, z: i64) -> Edge
     requires { Workable (high_piece z) y z }
     ensures { result ≡ edge_with weight_by (high_piece z) y z }
@@ -36,7 +37,7 @@ fn high2(y: i64, z: i64) -> Edge
     requires { Workable (alone high2_a) y z }
     ensures { result ≡ edge_with weight_by (alone high2_a) y z }
 {
-    fit::alone_at(&blocks::HIGH2_A_BYTES, &blocks::HIGH2_A, y, z)
+    fit::alone_at(&blocks::HIGH2_A, y, z)
 }
 
 // Label 220.
@@ -46,11 +47,8 @@ fn high3(y: i64, z: i64) -> Edge
 {
     fit::joint_at(
         Form::Plus,
-        &blocks::HIGH3_A_BYTES,
         &blocks::HIGH3_A,
-        &blocks::HIGH3_B_BYTES,
         &blocks::HIGH3_B,
-        &blocks::HIGH3_Q_BYTES,
         &blocks::HIGH3_Q,
         y,
         z,
@@ -64,11 +62,8 @@ fn high4(y: i64, z: i64) -> Edge
 {
     fit::joint_at(
         Form::Kept,
-        &blocks::HIGH4_A_BYTES,
         &blocks::HIGH4_A,
-        &blocks::HIGH4_B_BYTES,
         &blocks::HIGH4_B,
-        &blocks::HIGH4_Q_BYTES,
         &blocks::HIGH4_Q,
         y,
         z,

@@ -1,5 +1,5 @@
 // Gamma's coefficients of the low band in TGAS1, packed: the fit of the piece that Z chooses.
-#![tactic(auto)]
+#![tactic(auto, unfolding(packed::specs::Packed::unpacked, packed::specs::Packed::bytes_from, packed::specs::Packed::words_of))]
 
 mod blocks;
 
@@ -12,6 +12,7 @@ ghost use Rattle.tgas1_gamma_low.specs.Pieces.{low_piece, low2_a, low2_b, low2_q
 use fit::{Edge, Form};
 
 // Gamma's fit of the low band.
+#[tactic(auto, using(bicubic::proofs::Constant::constant_is), unfolding(crate::specs::Pieces::low_pieces))]
 pub fn gamma(y: i64, z: i64) -> Edge
     requires { Workable (low_piece z) y z }
     ensures { result ≡ edge_with weight_by (low_piece z) y z }
@@ -44,11 +45,8 @@ fn low2(y: i64, z: i64) -> Edge
 {
     fit::joint_at(
         Form::Minus,
-        &blocks::LOW2_A_BYTES,
         &blocks::LOW2_A,
-        &blocks::LOW2_B_BYTES,
         &blocks::LOW2_B,
-        &blocks::LOW2_Q_BYTES,
         &blocks::LOW2_Q,
         y,
         z,
@@ -62,11 +60,8 @@ fn low3(y: i64, z: i64) -> Edge
 {
     fit::joint_at(
         Form::Plus,
-        &blocks::LOW3_A_BYTES,
         &blocks::LOW3_A,
-        &blocks::LOW3_B_BYTES,
         &blocks::LOW3_B,
-        &blocks::LOW3_Q_BYTES,
         &blocks::LOW3_Q,
         y,
         z,
@@ -80,11 +75,8 @@ fn low4(y: i64, z: i64) -> Edge
 {
     fit::joint_at(
         Form::Plus,
-        &blocks::LOW4_A_BYTES,
         &blocks::LOW4_A,
-        &blocks::LOW4_B_BYTES,
         &blocks::LOW4_B,
-        &blocks::LOW4_Q_BYTES,
         &blocks::LOW4_Q,
         y,
         z,
@@ -98,11 +90,8 @@ fn low5(y: i64, z: i64) -> Edge
 {
     fit::joint_at(
         Form::Plus,
-        &blocks::LOW5_A_BYTES,
         &blocks::LOW5_A,
-        &blocks::LOW5_B_BYTES,
         &blocks::LOW5_B,
-        &blocks::LOW5_Q_BYTES,
         &blocks::LOW5_Q,
         y,
         z,
@@ -114,5 +103,5 @@ fn low6(y: i64, z: i64) -> Edge
     requires { Workable (alone low6_a) y z }
     ensures { result ≡ edge_with weight_by (alone low6_a) y z }
 {
-    fit::alone_at(&blocks::LOW6_A_BYTES, &blocks::LOW6_A, y, z)
+    fit::alone_at(&blocks::LOW6_A, y, z)
 }

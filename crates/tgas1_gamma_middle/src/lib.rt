@@ -1,5 +1,5 @@
 // Gamma's coefficients of the middle band in TGAS1, packed: the fit of the piece that Z chooses.
-#![tactic(auto)]
+#![tactic(auto, unfolding(packed::specs::Packed::unpacked, packed::specs::Packed::bytes_from, packed::specs::Packed::words_of))]
 
 mod blocks;
 
@@ -12,6 +12,7 @@ ghost use Rattle.tgas1_gamma_middle.specs.Pieces.{middle_piece, middle2_a, middl
 use fit::{Edge, Form};
 
 // Gamma's fit of the middle band.
+#[tactic(auto, using(bicubic::proofs::Constant::constant_is), unfolding(crate::specs::Pieces::middle_pieces))]
 pub fn gamma(y: i64, z: i64) -> Edge
     requires { Workable (middle_piece z) y z }
     ensures { result ≡ edge_with weight_by (middle_piece z) y z }
@@ -41,11 +42,8 @@ fn middle2(y: i64, z: i64) -> Edge
 {
     fit::joint_at(
         Form::Plus,
-        &blocks::MIDDLE2_A_BYTES,
         &blocks::MIDDLE2_A,
-        &blocks::MIDDLE2_B_BYTES,
         &blocks::MIDDLE2_B,
-        &blocks::MIDDLE2_Q_BYTES,
         &blocks::MIDDLE2_Q,
         y,
         z,
@@ -59,11 +57,8 @@ fn middle3(y: i64, z: i64) -> Edge
 {
     fit::joint_at(
         Form::Plus,
-        &blocks::MIDDLE3_A_BYTES,
         &blocks::MIDDLE3_A,
-        &blocks::MIDDLE3_B_BYTES,
         &blocks::MIDDLE3_B,
-        &blocks::MIDDLE3_Q_BYTES,
         &blocks::MIDDLE3_Q,
         y,
         z,
@@ -77,11 +72,8 @@ fn middle4(y: i64, z: i64) -> Edge
 {
     fit::joint_at(
         Form::Plus,
-        &blocks::MIDDLE4_A_BYTES,
         &blocks::MIDDLE4_A,
-        &blocks::MIDDLE4_B_BYTES,
         &blocks::MIDDLE4_B,
-        &blocks::MIDDLE4_Q_BYTES,
         &blocks::MIDDLE4_Q,
         y,
         z,
@@ -95,11 +87,8 @@ fn middle5(y: i64, z: i64) -> Edge
 {
     fit::joint_at(
         Form::Plus,
-        &blocks::MIDDLE5_A_BYTES,
         &blocks::MIDDLE5_A,
-        &blocks::MIDDLE5_B_BYTES,
         &blocks::MIDDLE5_B,
-        &blocks::MIDDLE5_Q_BYTES,
         &blocks::MIDDLE5_Q,
         y,
         z,

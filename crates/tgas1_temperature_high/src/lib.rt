@@ -1,5 +1,5 @@
 // Temperature's coefficients of the high band in TGAS1, packed: the fit of the piece that Z chooses.
-#![tactic(auto)]
+#![tactic(auto, unfolding(packed::specs::Packed::unpacked, packed::specs::Packed::bytes_from, packed::specs::Packed::words_of))]
 
 mod blocks;
 
@@ -12,6 +12,7 @@ ghost use Rattle.tgas1_temperature_high.specs.Pieces.{high_piece, high1_a, high2
 use fit::{Edge, Form};
 
 // Temperature's fit of the high band.
+#[tactic(auto, unfolding(crate::specs::Pieces::high_pieces))]
 pub fn fit(y: i64, z: i64) -> Edge
     requires { Workable (high_piece z) y z }
     ensures { result ≡ edge_with weight_by (high_piece z) y z }
@@ -30,7 +31,7 @@ fn high1(y: i64, z: i64) -> Edge
     requires { Workable (alone high1_a) y z }
     ensures { result ≡ edge_with weight_by (alone high1_a) y z }
 {
-    fit::alone_at(&blocks::HIGH1_A_BYTES, &blocks::HIGH1_A, y, z)
+    fit::alone_at(&blocks::HIGH1_A, y, z)
 }
 
 // Label 420.
@@ -40,11 +41,8 @@ fn high2(y: i64, z: i64) -> Edge
 {
     fit::joint_at(
         Form::Plus,
-        &blocks::HIGH2_A_BYTES,
         &blocks::HIGH2_A,
-        &blocks::HIGH2_B_BYTES,
         &blocks::HIGH2_B,
-        &blocks::HIGH2_Q_BYTES,
         &blocks::HIGH2_Q,
         y,
         z,
@@ -58,11 +56,8 @@ fn high3(y: i64, z: i64) -> Edge
 {
     fit::joint_at(
         Form::Plus,
-        &blocks::HIGH3_A_BYTES,
         &blocks::HIGH3_A,
-        &blocks::HIGH3_B_BYTES,
         &blocks::HIGH3_B,
-        &blocks::HIGH3_Q_BYTES,
         &blocks::HIGH3_Q,
         y,
         z,

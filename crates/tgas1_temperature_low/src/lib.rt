@@ -1,5 +1,5 @@
 // Temperature's coefficients of the low band in TGAS1, packed: the fit of the piece that Z chooses.
-#![tactic(auto)]
+#![tactic(auto, unfolding(packed::specs::Packed::unpacked, packed::specs::Packed::bytes_from, packed::specs::Packed::words_of))]
 
 mod blocks;
 
@@ -12,6 +12,7 @@ ghost use Rattle.tgas1_temperature_low.specs.Pieces.{low_piece, low1_a, low2_a, 
 use fit::{Edge, Form};
 
 // Temperature's fit of the low band.
+#[tactic(auto, unfolding(crate::specs::Pieces::low_pieces))]
 pub fn fit(y: i64, z: i64) -> Edge
     requires { Workable (low_piece z) y z }
     ensures { result ≡ edge_with weight_by (low_piece z) y z }
@@ -33,7 +34,7 @@ fn low1(y: i64, z: i64) -> Edge
     requires { Workable (alone low1_a) y z }
     ensures { result ≡ edge_with weight_by (alone low1_a) y z }
 {
-    fit::alone_at(&blocks::LOW1_A_BYTES, &blocks::LOW1_A, y, z)
+    fit::alone_at(&blocks::LOW1_A, y, z)
 }
 
 // Label 320.
@@ -43,11 +44,8 @@ fn low2(y: i64, z: i64) -> Edge
 {
     fit::joint_at(
         Form::Plus,
-        &blocks::LOW2_A_BYTES,
         &blocks::LOW2_A,
-        &blocks::LOW2_B_BYTES,
         &blocks::LOW2_B,
-        &blocks::LOW2_Q_BYTES,
         &blocks::LOW2_Q,
         y,
         z,
@@ -61,11 +59,8 @@ fn low3(y: i64, z: i64) -> Edge
 {
     fit::joint_at(
         Form::Plus,
-        &blocks::LOW3_A_BYTES,
         &blocks::LOW3_A,
-        &blocks::LOW3_B_BYTES,
         &blocks::LOW3_B,
-        &blocks::LOW3_Q_BYTES,
         &blocks::LOW3_Q,
         y,
         z,
@@ -79,11 +74,8 @@ fn low4(y: i64, z: i64) -> Edge
 {
     fit::joint_at(
         Form::Plus,
-        &blocks::LOW4_A_BYTES,
         &blocks::LOW4_A,
-        &blocks::LOW4_B_BYTES,
         &blocks::LOW4_B,
-        &blocks::LOW4_Q_BYTES,
         &blocks::LOW4_Q,
         y,
         z,

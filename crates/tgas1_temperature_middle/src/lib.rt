@@ -1,5 +1,5 @@
 // Temperature's coefficients of the middle band in TGAS1, packed: the fit of the piece that Z chooses.
-#![tactic(auto)]
+#![tactic(auto, unfolding(packed::specs::Packed::unpacked, packed::specs::Packed::bytes_from, packed::specs::Packed::words_of))]
 
 mod blocks;
 
@@ -12,6 +12,7 @@ ghost use Rattle.tgas1_temperature_middle.specs.Pieces.{middle_piece, middle1_a,
 use fit::{Edge, Form};
 
 // Temperature's fit of the middle band.
+#[tactic(auto, unfolding(crate::specs::Pieces::middle_pieces))]
 pub fn fit(y: i64, z: i64) -> Edge
     requires { Workable (middle_piece z) y z }
     ensures { result ≡ edge_with weight_by (middle_piece z) y z }
@@ -33,7 +34,7 @@ fn middle1(y: i64, z: i64) -> Edge
     requires { Workable (alone middle1_a) y z }
     ensures { result ≡ edge_with weight_by (alone middle1_a) y z }
 {
-    fit::alone_at(&blocks::MIDDLE1_A_BYTES, &blocks::MIDDLE1_A, y, z)
+    fit::alone_at(&blocks::MIDDLE1_A, y, z)
 }
 
 // Label 370.
@@ -43,11 +44,8 @@ fn middle2(y: i64, z: i64) -> Edge
 {
     fit::joint_at(
         Form::Plus,
-        &blocks::MIDDLE2_A_BYTES,
         &blocks::MIDDLE2_A,
-        &blocks::MIDDLE2_B_BYTES,
         &blocks::MIDDLE2_B,
-        &blocks::MIDDLE2_Q_BYTES,
         &blocks::MIDDLE2_Q,
         y,
         z,
@@ -61,11 +59,8 @@ fn middle3(y: i64, z: i64) -> Edge
 {
     fit::joint_at(
         Form::Plus,
-        &blocks::MIDDLE3_A_BYTES,
         &blocks::MIDDLE3_A,
-        &blocks::MIDDLE3_B_BYTES,
         &blocks::MIDDLE3_B,
-        &blocks::MIDDLE3_Q_BYTES,
         &blocks::MIDDLE3_Q,
         y,
         z,
@@ -79,11 +74,8 @@ fn middle4(y: i64, z: i64) -> Edge
 {
     fit::joint_at(
         Form::Plus,
-        &blocks::MIDDLE4_A_BYTES,
         &blocks::MIDDLE4_A,
-        &blocks::MIDDLE4_B_BYTES,
         &blocks::MIDDLE4_B,
-        &blocks::MIDDLE4_Q_BYTES,
         &blocks::MIDDLE4_Q,
         y,
         z,

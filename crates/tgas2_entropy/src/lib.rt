@@ -1,5 +1,5 @@
 // The entropy's coefficients in TGAS2, packed, and its limits: the fit of a band.
-#![tactic(auto)]
+#![tactic(auto, unfolding(packed::specs::Packed::unpacked, packed::specs::Packed::bytes_from, packed::specs::Packed::words_of))]
 
 mod blocks;
 
@@ -12,6 +12,7 @@ use bands::Band;
 use packed_bicubic::bicubic_of;
 
 // The bicubic n of a band.
+#[tactic(auto, unfolding(crate::specs::Entropy::entropy_coefficients))]
 pub fn entropy_bicubic(band: Band, y: i64, z: i64) -> i64
     requires { (In 25 y) × (In 25 z) }
     ensures { result ≡ bicubic (entropy_coefficients band) y z }
@@ -39,7 +40,7 @@ fn low_entropy(y: i64, z: i64) -> i64
     requires { (In 25 y) × (In 25 z) }
     ensures { result ≡ bicubic low_n y z }
 {
-    bicubic_of(&blocks::LOW_N_BYTES, &blocks::LOW_N, y, z)
+    bicubic_of(&blocks::LOW_N, y, z)
 }
 
 // Label 90, GAS1 to GAS4.
@@ -47,7 +48,7 @@ fn middle_entropy(y: i64, z: i64) -> i64
     requires { (In 25 y) × (In 25 z) }
     ensures { result ≡ bicubic middle_n y z }
 {
-    bicubic_of(&blocks::MIDDLE_N_BYTES, &blocks::MIDDLE_N, y, z)
+    bicubic_of(&blocks::MIDDLE_N, y, z)
 }
 
 // Label 100, GAS1 to GAS4.
@@ -55,5 +56,5 @@ fn high_entropy(y: i64, z: i64) -> i64
     requires { (In 25 y) × (In 25 z) }
     ensures { result ≡ bicubic high_n y z }
 {
-    bicubic_of(&blocks::HIGH_N_BYTES, &blocks::HIGH_N, y, z)
+    bicubic_of(&blocks::HIGH_N, y, z)
 }
