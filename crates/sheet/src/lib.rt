@@ -75,7 +75,8 @@ impl<'a> Sheet<'a> {
     // How many records the sheet has.
     #[tactic(auto, using(crate::proofs::Counted::accepted_count, crate::proofs::Places::seven))]
     pub fn count(&self) -> usize
-        ensures { result ≡ length (records_of (sheet_of self.now)) }
+        ensures value { result ≡ length (records_of (sheet_of self.now)) }
+        ensures accepted { Accepted self.now }
     {
         sheet_record::number(self.bytes, 5, 2) as usize
     }
@@ -90,7 +91,8 @@ impl<'a> Sheet<'a> {
 
     // The number of the record that has a name, where one has.
     pub fn place_of(&self, name: &[u8]) -> Option<usize>
-        ensures { Named self.now (records_of (sheet_of self.now)) name.now result }
+        ensures value { Named self.now (records_of (sheet_of self.now)) name.now result }
+        ensures accepted { Accepted self.now }
     {
         self.index.place_of(self.bytes, name)
     }

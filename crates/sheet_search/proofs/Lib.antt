@@ -1,6 +1,6 @@
 pub mod Locate
 pub mod Searching
-pub mod Indexed
+pub mod Named
 pub mod Pages
 pub mod Remarks
 pub mod Pins

@@ -16,24 +16,24 @@ use Rattle.sheet_record.specs.Layout.{Layout, or_plain}
 use Rattle.sheet_record.specs.Front.{Fields, Front, bad, front, front_of, record_at, past, Whole, name_in, values_end}
 use Rattle.sheet_head.specs.Head.{is_marked}
 use Rattle.sheet.specs.Sheet.{Sheet, refused, records, seen, walk, with_layout, sheet_by}
-use Rattle.sheet_search.specs.declared.Lookup.TheVariants.{Hit, Miss}
+use Rattle.std.specs.Prelude.{Ok, Err}
 use Rattle.sheet_record.specs.declared.Record.{Record}
 use Rattle.sheet_record.proofs.Places.{Sound, View, reads, view, or_false}
 use Rattle.sheet_name.proofs.Same.{same_refl}
 
 -- what is found stays found where more records follow
-still : (s : List ℕ) (rs ts : List Record) (name : List ℕ) (r : Record) → find_in s rs name ≡ Hit r → find_in s (rs ++ ts) name ≡ Hit r
+still : (s : List ℕ) (rs ts : List Record) (name : List ℕ) (r : Record) → find_in s rs name ≡ Ok r → find_in s (rs ++ ts) name ≡ Ok r
 unfolding find_in
 still s [] ts name r e = cc
 still s (q ∷ rs) ts name r e = go (still s rs ts name r) (same (name_in s q) name) e
   where
-    go : (find_in s rs name ≡ Hit r → find_in s (rs ++ ts) name ≡ Hit r) → (b : Bool) → cond b (Hit q) (find_in s rs name) ≡ Hit r
-        → cond b (Hit q) (find_in s (rs ++ ts) name) ≡ Hit r
+    go : (find_in s rs name ≡ Ok r → find_in s (rs ++ ts) name ≡ Ok r) → (b : Bool) → cond b (Ok q) (find_in s rs name) ≡ Ok r
+        → cond b (Ok q) (find_in s (rs ++ ts) name) ≡ Ok r
     go ih true h = h
     go ih false h = ih h
 
 -- a name that was not seen is found only in what follows
-passed : (s : List ℕ) (rs ts : List Record) (name : List ℕ) → seen s rs name ≡ false → find_in s (rs ++ ts) name ≡ find_in s ts name
+pub passed : (s : List ℕ) (rs ts : List Record) (name : List ℕ) → seen s rs name ≡ false → find_in s (rs ++ ts) name ≡ find_in s ts name
 unfolding find_in
 passed s [] ts name e = refl
 passed s (q ∷ rs) ts name e =
@@ -50,7 +50,7 @@ pub record Fit (y : Layout) (s : List ℕ) (r : Record) : Type 0 where
 -- each of the records is so, and is found by its own name
 pub record Located (y : Layout) (s : List ℕ) (rs : List Record) (r : Record) : Type 0 where
   pub fit : Fit y s r
-  pub found : find_in s rs (name_in s r) ≡ Hit r
+  pub found : find_in s rs (name_in s r) ≡ Ok r
 
 Found : Layout → List ℕ → List Record → Type 0
 Found y s rs = (r : Record) → Memᴰ r rs → Located y s rs r
@@ -65,9 +65,9 @@ sound_fit y s at f w =
       known = w.known;
     }
 
-alone : (s : List ℕ) (r : Record) → find_in s (r ∷ []) (name_in s r) ≡ Hit r
+alone : (s : List ℕ) (r : Record) → find_in s (r ∷ []) (name_in s r) ≡ Ok r
 unfolding find_in
-alone s r = ap (λ (b : Bool). cond b (Hit r) (Miss 9)) (same_refl (name_in s r))
+alone s r = ap (λ (b : Bool). cond b (Ok r) (Err 9)) (same_refl (name_in s r))
 
 -- and so with one more, whose name was not seen
 grown : (y : Layout) (s : List ℕ) (rs : List Record) (r : Record) → seen s rs (name_in s r) ≡ false → Fit y s r → Found y s rs → Found y s (rs ++ (r ∷ []))

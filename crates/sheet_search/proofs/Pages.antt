@@ -14,8 +14,8 @@ use Rattle.sheet_record.specs.Layout.{layout_in, layout_of, or_plain}
 use Rattle.sheet_record.specs.Front.{name_in}
 use Rattle.sheet.specs.Sheet.{Sheet, refused, records, sheet_of, number_of}
 use Rattle.sheet_head.specs.Head.{head_fault}
-use Rattle.sheet_search.specs.declared.Lookup.{Lookup}
-use Rattle.sheet_search.specs.declared.Lookup.TheVariants.{Hit, Miss}
+use Rattle.sheet_search.specs.Find.{Lookup}
+use Rattle.std.specs.Prelude.{Ok, Err}
 use Rattle.sheet_record.specs.declared.Record.{Record}
 use Rattle.sheet.proofs.Accept.{read, fault, by_head, sheet_verdict, headed}
 use Rattle.sheet.proofs.Entries.{Entry, Entries, entries_from, said_by, said, walk_said, entries_are}
@@ -101,8 +101,8 @@ pub data Reply : Type 0 where
   found : Entry → Reply
 
 abbrev pub reply_of : List ℕ → Lookup → Reply
-reply_of s (Miss k) = missed k
-reply_of s (Hit r) = found (said_by s r)
+reply_of s (Err k) = missed k
+reply_of s (Ok r) = found (said_by s r)
 
 abbrev find_among : List Entry → List ℕ → Reply
 find_among [] name = missed 9
@@ -118,7 +118,7 @@ find_among_lem s [] name = refl
 find_among_lem s (r ∷ rs) name = go (find_among_lem s rs name) (same (name_in s r) name)
   where
     go : reply_of s (find_in s rs name) ≡ find_among (said s rs) name → (b : Bool)
-        → reply_of s (cond b (Hit r) (find_in s rs name)) ≡ cond b (found (said_by s r)) (find_among (said s rs) name)
+        → reply_of s (cond b (Ok r) (find_in s rs name)) ≡ cond b (found (said_by s r)) (find_among (said s rs) name)
     go ih true = refl
     go ih false = ih
 
@@ -140,5 +140,5 @@ reply_name (missed k) = []
 reply_name (found e) = e.name
 
 pub name_reply : (s : List ℕ) (l : Lookup) → handed_back s l ≡ reply_name (reply_of s l)
-name_reply s (Miss k) = refl
-name_reply s (Hit r) = refl
+name_reply s (Err k) = refl
+name_reply s (Ok r) = refl
