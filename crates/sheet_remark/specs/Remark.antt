@@ -1,15 +1,16 @@
 -- Request 5: the remark of a found record, as the part of the sheet that holds it.
-use Rattle.std.specs.Prelude.{List, [], ℕ, zero, suc, ◌+◌, ◌≤◌, length, drop}
+use Rattle.std.specs.Prelude.{List, [], Result, Ok, Err, ℕ, zero, suc, ◌+◌, ◌≤◌, length, drop}
 use Rattle.std.proofs.Math.Option.{Option, none, some}
 use Rattle.octets.specs.Bytes.{part}
 use Rattle.sheet_record.specs.Layout.{layout_in}
 use Rattle.sheet_record.specs.Front.{values_end}
 use Rattle.sheet_record.specs.declared.Record.{Record}
-use Rattle.sheet_search.specs.declared.Lookup.{Lookup}
-use Rattle.sheet_search.specs.declared.Lookup.TheVariants.{Hit, Miss}
+use Rattle.sheet_search.specs.Find.{Lookup}
 use Rattle.sheet_remark.specs.declared.Part.{Part}
-use Rattle.sheet_remark.specs.declared.Remark.{Remark}
-use Rattle.sheet_remark.specs.declared.Remark.TheVariants.{At, Refused}
+
+-- the part that holds a remark, or a refusal's number
+abbrev pub Remark : Type 0
+Remark = Result Part ℕ
 
 -- the remark behind a second value that ends at a place, by how many bytes follow there: all but the length byte. Where none follow,
 -- as in version 1, it is empty and starts there
@@ -24,15 +25,15 @@ remark_in s r = remark_at (values_end r) ((layout_in s).tail (drop (values_end r
 
 -- the remark of what a search finds, or the search's refusal
 abbrev pub remark_of : List ℕ → Lookup → Remark
-remark_of s (Miss n) = Refused n
-remark_of s (Hit r) = At (remark_in s r)
+remark_of s (Err n) = Err n
+remark_of s (Ok r) = Ok (remark_in s r)
 
 -- its bytes; none where the search refuses
 abbrev pub remark_bytes : List ℕ → Remark → List ℕ
-remark_bytes s (Refused n) = []
-remark_bytes s (At p) = part s p.start p.len
+remark_bytes s (Err n) = []
+remark_bytes s (Ok p) = part s p.start p.len
 
 -- it lies in the sheet
 abbrev pub RemarkInside : List ℕ → Remark → Type 0
-RemarkInside s (Refused n) = Unit
-RemarkInside s (At p) = p.start + p.len ≤ length s
+RemarkInside s (Err n) = Unit
+RemarkInside s (Ok p) = p.start + p.len ≤ length s

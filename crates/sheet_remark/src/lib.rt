@@ -2,12 +2,14 @@
 #![tactic(auto)]
 
 ghost use Rattle.std.specs.Prelude.{◌≡◌, ◌≤◌, length, drop};
+ghost use Rattle.refusal.specs.Numbered.{numbered};
 ghost use Rattle.sheet_record.specs.Layout.{layout_in};
 ghost use Rattle.sheet_record.specs.Front.{Whole};
 ghost use Rattle.sheet_search.specs.Find.{Inside};
 ghost use Rattle.sheet_remark.specs.Remark.{remark_at, remark_of, RemarkInside};
 
-use sheet_search::Lookup;
+use refusal::Refusal;
+use sheet_record::Record;
 
 // A part of a sheet.
 #[derive(Clone, Copy)]
@@ -16,14 +18,8 @@ pub struct Part {
     pub len: usize,
 }
 
-// The part that holds a remark, or a refusal's number.
-#[derive(Clone, Copy)]
-pub enum Remark {
-    At(Part),
-    Refused(u32),
-}
-
 // The remark behind a second value, which ends at a place.
+#[tactic(auto, using(crate::proofs::Remarks::whole_is, crate::proofs::Remarks::none_follow, crate::proofs::Remarks::some_follow))]
 fn remark_at(s: &[u8], end: usize) -> Part
     requires { (5 ≤ length s.now) × Whole (layout_in s.now) s.now end }
     ensures { result ≡ remark_at end ((layout_in s.now).tail (drop end s.now)) }
@@ -39,13 +35,12 @@ fn remark_at(s: &[u8], end: usize) -> Part
 }
 
 // The remark of what was found, which lies in the sheet.
-pub fn remark_of(s: &[u8], found: Lookup) -> Remark
-    requires { Inside s.now found }
-    ensures value { result ≡ remark_of s.now found }
-    ensures remark_inside { RemarkInside s.now result }
+#[tactic(auto, using(crate::proofs::Remarks::remark_inside))]
+pub fn remark_of(s: &[u8], found: Result<Record, Refusal>) -> Result<Part, Refusal>
+    requires { Inside s.now (numbered found) }
+    ensures value { numbered result ≡ remark_of s.now (numbered found) }
+    ensures remark_inside { RemarkInside s.now (numbered result) }
 {
-    match found {
-        Lookup::Miss(number) => Remark::Refused(number),
-        Lookup::Hit(r) => Remark::At(remark_at(s, r.start + r.len + 17)),
-    }
+    let r = found?;
+    Ok(remark_at(s, r.start + r.len + 17))
 }
