@@ -32,5 +32,5 @@ dividable p d l h r =
     record {
       some = omega arith;
       most = hi;
-      ratio = ratio_small 1 999998 p P0 d D0 l.x l.y (lit≤ tt) h.taken.x h.taken.y (subst (λ (x : ℤ). x ≤ℤ pos 999998) h.taken.z z);
+      ratio = ratio_small 1 999998 p P0 d D0 h.taken.x l.y (lit≤ tt) h.taken.x_log h.taken.y (subst (λ (x : ℤ). x ≤ℤ pos 999998) h.taken.z z);
     }
