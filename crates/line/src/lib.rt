@@ -62,9 +62,9 @@ pub fn build(name: &[u8], answer: Answer) -> Line
     let mut line = Line::new();
     line.try_extend_from_slice(name).unwrap();
     match answer {
-        Answer::Refused(refusal) | Answer::Judged { refusal, .. } => put_refusal(
-            &mut line, refusal,
-        ),
+        Answer::Refused(refusal) | Answer::Judged { refusal, .. } => {
+            put_refusal(&mut line, refusal);
+        }
         Answer::Shows {
             letter,
             logs,
