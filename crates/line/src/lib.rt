@@ -79,7 +79,8 @@ pub fn build(name: &[u8], answer: Answer) -> Line
 #[tactic(auto, using(name::proofs::Written::spelling_whole, name::proofs::Written::short))]
 pub fn line_of_name(name: &[u8], answer: Answer) -> Line
     requires { is_length (length name.now) ≡ true }
-    ensures { result.items ≡ line_of (spelled name.now) (held answer) }
+    ensures text { result.items ≡ line_of (spelled name.now) (held answer) }
+    ensures len_bound { array_vec_len result ≤ 192 }
 {
     build(&name_writer::spelling(name).unwrap(), answer)
 }
@@ -87,7 +88,8 @@ pub fn line_of_name(name: &[u8], answer: Answer) -> Line
 // The line for a spelling and its answer: ? stands for a name that cannot be read.
 #[tactic(auto, using(crate::proofs::Names::valid), unfolding(crate::specs::Line::line))]
 pub fn line_of(spelled: &[u8], answer: Answer) -> Line
-    ensures { result.items ≡ line spelled.now (held answer) }
+    ensures text { result.items ≡ line spelled.now (held answer) }
+    ensures len_bound { array_vec_len result ≤ 192 }
 {
     match name_reader::read(spelled) {
         Ok(name) => line_of_name(&name, answer),

@@ -45,14 +45,14 @@ record Pushed (b : ℕ) (r : Reading) (bs : List ℕ) : Type 0 where
   whole : bs ≡ b ∷ rest
 
 pushed : (b : ℕ) (r : Reading) (bs : List ℕ) → push b r ≡ bytes bs → Pushed b r bs
-pushed b wrong bs e = let f : ◌≡◌ {A = ℕ} 0 1 = cc in let g : ⊥ = omega arith in absurd g
+pushed b wrong bs e = absurd (cc)
 pushed b (bytes rest) bs e = record { rest = rest; read = refl; whole = cc }
 
 more_bytes : (b : ℕ) (r : Reading) (bs : List ℕ) → b < 256 → ((cs : List ℕ) → r ≡ bytes cs → Bytes cs) → push b r ≡ bytes bs → Bytes bs
 more_bytes b r bs h ih e = let k = pushed b r bs e in subst Bytes (sym k.whole) (byte h (ih k.rest k.read))
 
 not_wrong : (bs : List ℕ) → wrong ≡ bytes bs → Bytes bs
-not_wrong bs e = let f : ◌≡◌ {A = ℕ} 0 1 = cc in let g : ⊥ = omega arith in absurd g
+not_wrong bs e = absurd (cc)
 
 reads_bytes : (s bs : List ℕ) → reading s ≡ bytes bs → Bytes bs
 unfolding reading
@@ -149,12 +149,12 @@ record Named (r : Reading) (name : List ℕ) : Type 0 where
   sized : T (is_length (length name))
 
 named : (r : Reading) (name : List ℕ) → judged r ≡ text name → Named r name
-named wrong name e = let f : ◌≡◌ {A = ℕ} 0 1 = cc in let g : ⊥ = omega arith in absurd g
+named wrong name e = absurd (cc)
 named (bytes bs) name e = go (is_length (length bs)) refl e
   where
     go : (b : Bool) → is_length (length bs) ≡ b → cond b (text bs) (refused 8) ≡ text name → Named (bytes bs) name
     go true u h = let p : bs ≡ name = cc in record { read = ap bytes p; sized = subst (λ (x : List ℕ). T (is_length (length x))) p (is_true u) }
-    go false u h = let f : ◌≡◌ {A = ℕ} 0 1 = cc in let g : ⊥ = omega arith in absurd g
+    go false u h = absurd (cc)
 
 -- what a spelling reads to is 1 to 40 bytes
 pub name_valid : (s name : List ℕ) → name_of s ≡ text name → (Bytes name) × T (is_length (length name))

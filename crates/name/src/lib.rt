@@ -6,10 +6,10 @@ ghost use Rattle.name.specs.Spelling.{unreserved, digit_of, hex_digit};
 
 use arrayvec::ArrayVec;
 
-// A name: 1 to 40 bytes of any value.
+// A name, in room for the 40 bytes of the longest.
 pub type Name = ArrayVec<u8, 40>;
 
-// A name as it is written: at most three bytes for each of its own.
+// A name as it is written, in room for three bytes for each of its own.
 pub type Spelling = ArrayVec<u8, 120>;
 
 // Whether a byte stands for itself.
