@@ -2,39 +2,31 @@
 #![tactic(auto)]
 
 ghost use Rattle.std.specs.Prelude.{◌≡◌};
-ghost use Rattle.sheet.specs.Index.{Indexed};
+ghost use Rattle.refusal.specs.Numbered.{numbered};
 ghost use Rattle.sheet_walk.specs.Records.{record_of};
 
-use sheet_search::Lookup;
+use distinct::Index;
+use refusal::Refusal;
+use sheet::Sheet;
+use sheet_record::Record;
 
-// A record by its number, from 0, of a sheet that is indexed: 9 where there is none.
-pub fn record_in(
-    s: &[u8],
-    starts: &[u16; 3449],
-    heads: &[u16; 4096],
-    next: &[u16; 3449],
-    i: usize,
-) -> Lookup
-    requires { Indexed s.now starts.now heads.now next.now }
-    ensures { result ≡ record_of s.now i }
+// A record by its number, from 0: 9 where there is none.
+#[tactic(auto, using(crate::proofs::Numbered::numbered, crate::proofs::Numbered::none_left))]
+pub fn record_in(sheet: &Sheet, i: usize) -> Result<Record, Refusal>
+    ensures { numbered result ≡ record_of sheet.now i }
 {
-    if sheet_record::number(s, 5, 2) <= i as u64 {
-        return Lookup::Miss(9);
+    if sheet.count() <= i {
+        return Err(Refusal::NoSuchName);
     }
-    let at = starts[i] as usize;
-    Lookup::Hit(sheet_record::entry_at(s, at, sheet_record::long(s[at])))
+    Ok(sheet.record(i))
 }
 
 // A record of a sheet by its number, from 0: the sheet's refusals, then 9.
-pub fn record_at(s: &[u8], i: usize) -> Lookup
-    ensures { result ≡ record_of s.now i }
+#[tactic(auto, using(crate::proofs::Numbered::refused_sheet))]
+pub fn record_at(s: &[u8], i: usize) -> Result<Record, Refusal>
+    ensures { numbered result ≡ record_of s.now i }
 {
-    let mut starts = distinct::no_links();
-    let mut heads = distinct::no_heads();
-    let mut next = distinct::no_links();
-    let number = sheet::index(s, &mut starts, &mut heads, &mut next);
-    if number != 0 {
-        return Lookup::Miss(number);
-    }
-    record_in(s, &starts, &heads, &next, i)
+    let mut room = Index::blank();
+    let sheet = sheet::index(s, &mut room)?;
+    record_in(&sheet, i)
 }
