@@ -133,8 +133,3 @@ stands y s at e = go (front_of y (drop at s)) (view y s at) refl e
     go : (t : Front) → View y s at t → front_of y (drop at s) ≡ t → fault_of t ≡ 0 → Stands y s at
     go (bad k) (refuses z) p h = absurd (z h)
     go (front f) (reads w) p h = record { fields = f; is = p; sound = w }
-
--- what is refused is refused by its number
-pub faulty : (f : Front) → (fault_of f ≡ 0 → ⊥) → f ≡ bad (fault_of f)
-faulty (bad k) h = refl
-faulty (front f) h = absurd (h refl)
