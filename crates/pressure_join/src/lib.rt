@@ -1,8 +1,7 @@
 // A pressure joined between the edges of a strip.
 #![tactic(auto)]
 
-ghost use Rattle.std.specs.Prelude.{◌≡◌};
-ghost use Rattle.bands.specs.declared.Strip.TheVariants.{Between};
+ghost use Rattle.std.specs.Prelude.{◌≡◌, Some};
 ghost use Rattle.air.specs.Held.{held};
 ghost use Rattle.air.specs.Places.{fitted_by};
 ghost use Rattle.air.specs.Choices.{chosen};
@@ -11,35 +10,53 @@ ghost use Rattle.pressure_fit.specs.Ready.{StripReady};
 ghost use Rattle.pressure_join.specs.Line.{line_of, LineReady};
 
 use air::{Answer, Edges, Ends, Logs};
+use bands::Strip;
 use fit::Edge;
+use refusal::Refusal;
 
 // The answer by the two gammas: the straight line between their pressures, both with the state's own energy and density.
-fn line(e: u64, d: u64, logs: Logs, a: i64, b: i64, low: Edge, high: Edge) -> Answer
-    requires { LineReady e d a b logs.y }
-    ensures { held result ≡ line_of e d a b logs low high }
+fn line(e: u64, d: u64, logs: Logs, strip: Strip, low: Edge, high: Edge) -> Answer
+    requires { LineReady e d strip logs.y }
+    ensures { held result ≡ line_of e d strip logs low high }
 {
-    let g = low.fit;
-    let h = high.fit;
-    if pressure_fit::is_either_beyond(g, h) {
-        return answers::judged(b'P', 17, logs, Edges::Two(low, high));
+    let letter = b'P';
+    let edges = Edges::Two(low, high);
+    if pressure_fit::is_either_beyond(low.fit, high.fit) {
+        return Answer::Judged {
+            letter,
+            refusal: Refusal::Gamma,
+            logs,
+            edges,
+        };
     }
-    let s = pressure_fit::pressure_of(e, d, g);
-    let t = pressure_fit::pressure_of(e, d, h);
-    let y = logs.y;
-    let value = proportion::straight(a, b, s, t, y);
-    answers::shown(b'P', logs, Edges::Two(low, high), Ends::Both(s, t), value)
+    let ends = Ends {
+        low: pressure_fit::pressure_of(e, d, low.fit),
+        high: pressure_fit::pressure_of(e, d, high.fit),
+    };
+    let value = proportion::straight(strip.low, strip.high, ends.low, ends.high, logs.y);
+    Answer::Shows {
+        letter,
+        logs,
+        edges,
+        ends: Some(ends),
+        value,
+    }
 }
 
 // The answer inside a strip, by gamma at its edges.
-pub fn joined(e: u64, d: u64, logs: Logs, a: i64, b: i64) -> Answer
-    requires { StripReady e d a b logs.y logs.z }
-    ensures { held result ≡ fitted_by chosen (pressure_rule e d) (pressure_of e d) (Between a b) logs }
+pub fn joined(e: u64, d: u64, logs: Logs, strip: Strip) -> Answer
+    requires { StripReady e d strip logs.y logs.z }
+    ensures { held result ≡ fitted_by chosen (pressure_rule e d) (pressure_of e d) (Some strip) logs }
 {
-    let z = logs.z;
-    if pressure_fit::is_either_warned(a, b, z) {
-        return answers::judged(b'P', 17, logs, Edges::Unfitted);
+    if pressure_fit::is_either_warned(strip, logs.z) {
+        return Answer::Judged {
+            letter: b'P',
+            refusal: Refusal::Gamma,
+            logs,
+            edges: Edges::Unfitted,
+        };
     }
-    let low = pressure_fit::gamma_at(a, z);
-    let high = pressure_fit::gamma_at(b, z);
-    line(e, d, logs, a, b, low, high)
+    let low = pressure_fit::gamma_at(strip.low, logs.z);
+    let high = pressure_fit::gamma_at(strip.high, logs.z);
+    line(e, d, logs, strip, low, high)
 }
