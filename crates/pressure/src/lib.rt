@@ -1,9 +1,8 @@
 // Pressure of an energy and a density.
 #![tactic(auto)]
 
-ghost use Rattle.std.specs.Prelude.{◌≡◌};
+ghost use Rattle.std.specs.Prelude.{◌≡◌, None};
 ghost use Rattle.std.proofs.Math.Option.{some};
-ghost use Rattle.bands.specs.declared.Strip.TheVariants.{Clear};
 ghost use Rattle.air.specs.Held.{held};
 ghost use Rattle.air.specs.Places.{fitted_by};
 ghost use Rattle.air.specs.Choices.{chosen};
@@ -12,38 +11,52 @@ ghost use Rattle.air_pressure.specs.Property.{pressure_by, pressure_property};
 ghost use Rattle.air.specs.Property.{held_by};
 ghost use Rattle.pressure.specs.Ready.{PressureReady};
 
-use air::{Answer, Edges, Ends, Logs};
-use answers::Taken;
-use bands::Strip;
+use air::{Answer, Edges, Logs};
+use refusal::Refusal;
 
 // The answer outside the strips.
 fn unjoined(e: u64, d: u64, logs: Logs) -> Answer
     requires { PressureReady e d logs }
-    ensures { held result ≡ fitted_by chosen (pressure_rule e d) (pressure_of e d) Clear logs }
+    ensures { held result ≡ fitted_by chosen (pressure_rule e d) (pressure_of e d) None logs }
 {
-    let y = logs.y;
-    let z = logs.z;
-    if pressure_fit::is_warned(y, z) {
-        return answers::judged(b'P', 17, logs, Edges::Unfitted);
+    let letter = b'P';
+    let refusal = Refusal::Gamma;
+    if pressure_fit::is_warned(logs.y, logs.z) {
+        return Answer::Judged {
+            letter,
+            refusal,
+            logs,
+            edges: Edges::Unfitted,
+        };
     }
-    let edge = pressure_fit::gamma_at(y, z);
-    let g = edge.fit;
-    if pressure_fit::is_beyond(g) {
-        return answers::judged(b'P', 17, logs, Edges::One(edge));
+    let edge = pressure_fit::gamma_at(logs.y, logs.z);
+    let edges = Edges::One(edge);
+    if pressure_fit::is_beyond(edge.fit) {
+        return Answer::Judged {
+            letter,
+            refusal,
+            logs,
+            edges,
+        };
     }
-    let value = pressure_fit::pressure_of(e, d, g);
-    answers::shown(b'P', logs, Edges::One(edge), Ends::Unjoined, value)
+    Answer::Shows {
+        letter,
+        logs,
+        edges,
+        ends: None,
+        value: pressure_fit::pressure_of(e, d, edge.fit),
+    }
 }
 
 // A pressure's answer from its logarithms.
+#[tactic(auto, unfolding(air_pressure::specs::Property::pressure_by))]
 fn pressure_from(e: u64, d: u64, logs: Logs) -> Answer
     requires { PressureReady e d logs }
     ensures { held result ≡ pressure_by chosen e d logs }
 {
-    let y = logs.y;
-    match bands::strip_of(y) {
-        Strip::Clear => unjoined(e, d, logs),
-        Strip::Between(a, b) => pressure_join::joined(e, d, logs, a, b),
+    match bands::strip_of(logs.y) {
+        None => unjoined(e, d, logs),
+        Some(strip) => pressure_join::joined(e, d, logs, strip),
     }
 }
 
@@ -52,7 +65,7 @@ pub fn pressure(e: u64, d: u64) -> Answer
     ensures { held result ≡ held_by chosen (some pressure_property) e d }
 {
     match answers::energy_logs(e, d) {
-        Taken::Beyond(n) => Answer::Refused(n),
-        Taken::Carried(logs) => pressure_from(e, d, logs),
+        Ok(logs) => pressure_from(e, d, logs),
+        Err(refusal) => Answer::Refused(refusal),
     }
 }
