@@ -14,10 +14,10 @@ pub fn evaluate(kind: u8, first: u64, second: u64) -> Answer
     ensures result_value { held result ≡ answer_by chosen kind first second }
     ensures answer { IsAnswer kind first second result }
 {
-    match kind::kind_of(kind) {
-        Kind::Temperature => temperature::temperature(first, second),
-        Kind::Entropy => entropy::entropy(first, second),
-        Kind::Pressure => pressure::pressure(first, second),
-        Kind::Unknown => Answer::Refused(6),
+    match Kind::try_from(kind) {
+        Ok(Kind::Temperature) => temperature::temperature(first, second),
+        Ok(Kind::Entropy) => entropy::entropy(first, second),
+        Ok(Kind::Pressure) => pressure::pressure(first, second),
+        Err(refusal) => Answer::Refused(refusal),
     }
 }

@@ -1,5 +1,5 @@
 -- Document 01, Plot marks.
-use Rattle.std.specs.Prelude.{false, true, cond, ◌≡◌, ℕ, suc, T, eqb, ℤ, pos, negsuc, neg_ℤ, ◌+ℤ◌, ◌≤ℤ◌, Float}
+use Rattle.std.specs.Prelude.{false, true, cond, ◌≡◌, ℕ, suc, T, eqb, ℤ, pos, negsuc, neg_ℤ, ◌+ℤ◌, ◌≤ℤ◌, Float, Result, Ok, Err}
 use Rattle.std.proofs.Math.Option.{Option, none, some}
 use Rattle.std.specs.Int.Signed.{shr_z}
 use Rattle.std.specs.Float.{binary64}
@@ -9,8 +9,6 @@ use Rattle.air.specs.declared.Logs.{Logs}
 use Rattle.air.specs.Held.{Held}
 use Rattle.air_pressure.specs.Pressure.{letter_p}
 use Rattle.mark.specs.declared.Point.{Point}
-use Rattle.mark.specs.declared.Mark.{Mark}
-use Rattle.mark.specs.declared.Mark.TheVariants.{At, Blank}
 
 -- across is Y converted and then increased, up is the value converted
 abbrev pub point_of : ℤ → ℤ → Point
@@ -21,13 +19,13 @@ abbrev pub shown_value : ℕ → ℤ → ℤ
 shown_value letter v = cond (eqb letter letter_p) (shr_z v 1000000) v
 
 -- a point where there is a value, else a blank with the refusal's number
-abbrev pub mark_from : ℕ → ℕ → Option Logs → Option ℤ → Mark
-mark_from n letter none v = Blank n
-mark_from n letter (some l) none = Blank n
-mark_from n letter (some l) (some v) = At (point_of l.y (shown_value letter v))
+abbrev pub mark_from : ℕ → ℕ → Option Logs → Option ℤ → Result Point ℕ
+mark_from n letter none v = Err n
+mark_from n letter (some l) none = Err n
+mark_from n letter (some l) (some v) = Ok (point_of l.y (shown_value letter v))
 
 -- the mark of what an answer holds
-unfoldable pub mark_of : Held → Mark
+unfoldable pub mark_of : Held → Result Point ℕ
 mark_of h = mark_from h.number h.letter h.logs h.value
 
 -- a Y from -7 to 20, as every kind takes it, and a value that a double holds exactly
@@ -58,5 +56,5 @@ pub record Stands (p : Point) (y v : ℤ) : Type 0 where
 -- the mark of what is held with the logarithms l and the value v: a point that stands for Y and the value
 pub record Marked (h : Held) (l : Logs) (v : ℤ) : Type 0 where
   pub point : Point
-  pub drawn : mark_of h ≡ At point
+  pub drawn : mark_of h ≡ Ok point
   pub exact : Stands point l.y (shown_value h.letter v)

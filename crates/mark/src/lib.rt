@@ -3,10 +3,12 @@
 
 ghost use Rattle.std.specs.Prelude.{◌≡◌};
 ghost use Rattle.std.specs.Int.Signed.{shr_z};
+ghost use Rattle.refusal.specs.Numbered.{numbered};
 ghost use Rattle.air.specs.Held.{held};
 ghost use Rattle.mark.specs.Mark.{point_of, shown_value, mark_of, Drawable, CanDraw};
 
 use air::Answer;
+use refusal::Refusal;
 
 // Two doubles.
 #[repr(C)]
@@ -14,13 +16,6 @@ use air::Answer;
 pub struct Point {
     pub across: f64,
     pub up: f64,
-}
-
-// A point, or a blank with its refusal number.
-#[derive(Clone, Copy)]
-pub enum Mark {
-    At(Point),
-    Blank(u32),
 }
 
 // Where a value stands. Both doubles are exact.
@@ -48,31 +43,22 @@ fn millionth(a: i64) -> i64
 fn shown_value(letter: u8, v: i64) -> i64
     ensures { result ≡ shown_value letter v }
 {
-    if letter == b'P' {
-        return millionth(v);
-    }
-    v
+    if letter == b'P' { millionth(v) } else { v }
 }
 
-// The mark of an answer.
-pub fn mark_of(a: Answer) -> Mark
+// The mark of an answer: a point, or a blank with its refusal.
+pub fn mark_of(a: Answer) -> Result<Point, Refusal>
     requires { CanDraw (held a) }
-    ensures { result ≡ mark_of (held a) }
+    ensures { numbered result ≡ mark_of (held a) }
 {
     match a {
-        Answer::Refused(number) => Mark::Blank(number),
-        Answer::Judged {
-            letter: _,
-            number,
-            logs: _,
-            edges: _,
-        } => Mark::Blank(number),
+        Answer::Refused(refusal) => Err(refusal),
+        Answer::Judged { refusal, .. } => Err(refusal),
         Answer::Shows {
             letter,
             logs,
-            edges: _,
-            ends: _,
             value,
-        } => Mark::At(point_of(logs.y, shown_value(letter, value))),
+            ..
+        } => Ok(point_of(logs.y, shown_value(letter, value))),
     }
 }

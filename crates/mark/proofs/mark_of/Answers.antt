@@ -3,10 +3,10 @@ use mathlib.Core.Path.{◌≡◌, sym, ap, ◌∙◌, subst}
 use borrow.Author.Rules.{rules}
 use mir.Syntax.{w64}
 use mir.Val.{to_z, of_z}
+use Rattle.std.specs.Prelude.{Ok}
 use Rattle.integer.proofs.Machine.{back, back_ok}
 use Rattle.air.specs.declared.Answer.{Answer}
 use Rattle.air.specs.Held.{held}
-use Rattle.mark.specs.declared.Mark.TheVariants.{At}
 use Rattle.mark.specs.Mark.{shown_value, mark_of, CanDraw}
 use Rattle.mark.proofs.mark_of.Goals as goal
 use Rattle.mark.proofs.mark_of.Goals.{After-shown_value}
@@ -31,5 +31,5 @@ returns-in-Judged c = sym (ap (λ (a : Answer). mark_of (held a)) c.in-Judged.is
 pub returns-in-Shows : goal.returns-in-Shows
 unfolding mark_of
 returns-in-Shows c =
-    ap At (rw (back {z = c.in-Shows.logs.y} (search rules), shown (goal.at.returns-in-Shows c).After-shown_value) at c.point_of.ensures)
+    ap Ok (rw (back {z = c.in-Shows.logs.y} (search rules), shown (goal.at.returns-in-Shows c).After-shown_value) at c.point_of.ensures)
     ∙ sym (ap (λ (x : Answer). mark_of (held x)) c.in-Shows.is)
