@@ -1,12 +1,12 @@
 -- What C gets of an answer: flat numbers, 0 where nothing is carried.
-use Rattle.std.specs.Prelude.{cond, ℕ, ◌+◌, ℤ, pos}
+use Rattle.std.specs.Prelude as rust
+use Rattle.std.specs.Prelude.{cond, ℕ, ◌+◌, ℤ, pos, Some, None, is_some}
 use Rattle.std.proofs.Math.Option.{Option, none, some}
 use Rattle.air.specs.declared.Logs.{Logs}
 use Rattle.fit.specs.declared.Edge.{Edge}
 use Rattle.air.specs.declared.Edges.{Edges}
 use Rattle.air.specs.declared.Edges.TheVariants.{Unfitted, One, Two}
 use Rattle.air.specs.declared.Ends.{Ends}
-use Rattle.air.specs.declared.Ends.TheVariants.{Unjoined, Both}
 use Rattle.air.specs.Held.{Held}
 use Rattle.flat.specs.declared.CEdge.{CEdge}
 use Rattle.flat.specs.declared.CEdges.{CEdges}
@@ -15,7 +15,7 @@ use Rattle.flat.specs.declared.CAnswer.{CAnswer}
 -- the bits of `carries`: 1 for y and z, 2 for x, 4 for the low edge, 8 for the high one, 16 for the value
 abbrev pub log_bits : Option Logs → ℕ
 log_bits none = 0
-log_bits (some l) = cond l.triple 3 1
+log_bits (some l) = cond (is_some l.x) 3 1
 
 abbrev pub edge_bits : Edges → ℕ
 edge_bits Unfitted = 0
@@ -30,6 +30,10 @@ abbrev pub logs_or0 : Option Logs → (Logs → ℤ) → ℤ
 logs_or0 none f = pos 0
 logs_or0 (some l) f = f l
 
+abbrev pub x_or0 : rust.Option ℤ → ℤ
+x_or0 None = pos 0
+x_or0 (Some x) = x
+
 abbrev pub value_or0 : Option ℤ → ℤ
 value_or0 none = pos 0
 value_or0 (some v) = v
@@ -41,13 +45,13 @@ edge_with e v = record { fit = e.fit; weight = e.weight; value = v }
 abbrev pub no_edge : CEdge
 no_edge = record { fit = pos 0; weight = pos 0; value = pos 0 }
 
-abbrev pub low_value : Ends → ℤ
-low_value Unjoined = pos 0
-low_value (Both a b) = a
+abbrev pub low_value : rust.Option Ends → ℤ
+low_value None = pos 0
+low_value (Some s) = s.low
 
-abbrev pub high_value : Ends → ℤ
-high_value Unjoined = pos 0
-high_value (Both a b) = b
+abbrev pub high_value : rust.Option Ends → ℤ
+high_value None = pos 0
+high_value (Some s) = s.high
 
 abbrev pub low_edge : Edges → ℤ → CEdge
 low_edge Unfitted v = no_edge
@@ -69,7 +73,7 @@ flat h =
       number = h.number;
       letter = h.letter;
       carries = log_bits h.logs + edge_bits h.edges + value_bits h.value;
-      x = logs_or0 h.logs (λ l. l.x);
+      x = logs_or0 h.logs (λ l. x_or0 l.x);
       y = logs_or0 h.logs (λ l. l.y);
       z = logs_or0 h.logs (λ l. l.z);
       value = value_or0 h.value;
@@ -83,8 +87,8 @@ assembled n c l e bit v =
     record {
       number = n;
       letter = c;
-      carries = cond l.triple 3 1 + e.bits + bit;
-      x = l.x;
+      carries = cond (is_some l.x) 3 1 + e.bits + bit;
+      x = x_or0 l.x;
       y = l.y;
       z = l.z;
       value = v;

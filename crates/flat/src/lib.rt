@@ -1,9 +1,9 @@
 // What C gets of an answer: a flat struct.
 #![tactic(auto)]
 
-ghost use Rattle.std.specs.Prelude.{◌≡◌, cond, ◌≤◌};
+ghost use Rattle.std.specs.Prelude.{◌≡◌, ◌≤◌};
 ghost use Rattle.air.specs.Held.{held};
-ghost use Rattle.flat.specs.Flat.{low_value, high_value, flat_edges, assembled, flat};
+ghost use Rattle.flat.specs.Flat.{flat_edges, assembled, flat};
 
 use air::{Answer, Edges, Ends, Logs};
 
@@ -38,8 +38,10 @@ pub struct CEdges {
 }
 
 // The edges that an answer carries, with their own values.
+#[tactic(auto, unfolding(crate::specs::Flat::flat_edges))]
 fn flat_edges(edges: Edges, low: i64, high: i64) -> CEdges
-    ensures { result ≡ flat_edges edges low high }
+    ensures value { result ≡ flat_edges edges low high }
+    ensures bits { result.bits ≤ 12 }
 {
     let none = CEdge {
         fit: 0,
@@ -77,65 +79,39 @@ fn flat_edges(edges: Edges, low: i64, high: i64) -> CEdges
     }
 }
 
-fn low_value(ends: Ends) -> i64
-    ensures { result ≡ low_value ends }
-{
-    match ends {
-        Ends::Unjoined => 0,
-        Ends::Both(a, _) => a,
-    }
-}
-
-fn high_value(ends: Ends) -> i64
-    ensures { result ≡ high_value ends }
-{
-    match ends {
-        Ends::Unjoined => 0,
-        Ends::Both(_, b) => b,
-    }
-}
-
-// The bits of the logarithms.
-fn log_bits(triple: bool) -> u32
-    ensures { result ≡ cond triple 3 1 }
-{
-    if triple { 3 } else { 1 }
-}
-
 // The parts of an answer put together; `bit` is that of the value.
 fn assemble(number: u32, letter: u8, logs: Logs, edges: CEdges, bit: u32, value: i64) -> CAnswer
     requires { (edges.bits ≤ 12) × (bit ≤ 16) }
     ensures { result ≡ assembled number letter logs edges bit value }
 {
-    let bits = log_bits(logs.triple) + edges.bits + bit;
-    let low = edges.low;
-    let high = edges.high;
+    let logs_bits: u32 = if logs.x.is_some() { 3 } else { 1 };
     CAnswer {
         number,
-        letter: letter as u32,
-        carries: bits,
-        x: logs.x,
+        letter: u32::from(letter),
+        carries: logs_bits + edges.bits + bit,
+        x: logs.x.unwrap_or(0),
         y: logs.y,
         z: logs.z,
         value,
-        low,
-        high,
+        low: edges.low,
+        high: edges.high,
     }
 }
 
 // An answer as C takes it.
+#[tactic(auto, unfolding(crate::specs::Flat::flat, crate::specs::Flat::flat_edges))]
 pub fn flatten(a: Answer) -> CAnswer
     ensures { result ≡ flat (held a) }
 {
     match a {
-        Answer::Refused(number) => {
+        Answer::Refused(refusal) => {
             let none = CEdge {
                 fit: 0,
                 weight: 0,
                 value: 0,
             };
             CAnswer {
-                number,
+                number: refusal.number(),
                 letter: 0,
                 carries: 0,
                 x: 0,
@@ -148,10 +124,17 @@ pub fn flatten(a: Answer) -> CAnswer
         }
         Answer::Judged {
             letter,
-            number,
+            refusal,
             logs,
             edges,
-        } => assemble(number, letter, logs, flat_edges(edges, 0, 0), 0, 0),
+        } => assemble(
+            refusal.number(),
+            letter,
+            logs,
+            flat_edges(edges, 0, 0),
+            0,
+            0,
+        ),
         Answer::Shows {
             letter,
             logs,
@@ -159,8 +142,15 @@ pub fn flatten(a: Answer) -> CAnswer
             ends,
             value,
         } => {
-            let e = flat_edges(edges, low_value(ends), high_value(ends));
-            assemble(0, letter, logs, e, 16, value)
+            let ends = ends.unwrap_or(Ends { low: 0, high: 0 });
+            assemble(
+                0,
+                letter,
+                logs,
+                flat_edges(edges, ends.low, ends.high),
+                16,
+                value,
+            )
         }
     }
 }
