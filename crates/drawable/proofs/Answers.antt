@@ -17,18 +17,17 @@ use Rattle.quotient.proofs.Floors.{quotient_upto}
 use Rattle.bands.specs.declared.Region.{Region}
 use Rattle.bands.specs.declared.Region.TheVariants.{Refused, Perfect, Fitted}
 use Rattle.bands.specs.declared.Strip.{Strip}
-use Rattle.bands.specs.declared.Strip.TheVariants.{Clear}
-use Rattle.bands.specs.declared.Strip.TheVariants as strip
+use Rattle.std.specs.Prelude as rust
+use Rattle.std.specs.Prelude.{Some, None}
 use Rattle.bands.specs.Bands.{strip_of}
 use Rattle.bands.specs.Region.{beyond_window, region_of}
 use Rattle.bands.proofs.Regions.{perfect_region, fitted_region}
 use Rattle.perfect.proofs.Quotient.{perfect_small}
 use Rattle.kind.specs.declared.Kind.{Kind}
-use Rattle.kind.specs.declared.Kind.TheVariants.{Temperature, Entropy, Pressure, Unknown}
+use Rattle.kind.specs.declared.Kind.TheVariants.{Temperature, Entropy, Pressure}
 use Rattle.kind.specs.Kind.{kind_of}
 use Rattle.air.specs.declared.Logs.{Logs}
 use Rattle.air.specs.declared.Edges.TheVariants.{Unfitted}
-use Rattle.air.specs.declared.Ends.TheVariants.{Unjoined}
 use Rattle.air.specs.Quantities.{D0, is_pressure, is_density, is_energy}
 use Rattle.air.specs.Held.{Held, judges, shows}
 use Rattle.air.specs.Ready.{PlaceReady}
@@ -95,7 +94,7 @@ abbrev pub IsSized : Held → Type 0
 IsSized h = SizedFrom h.number h.letter h.logs h.value
 
 -- ---- a fit at its places
-places_sized : (r : Rule) (s : Strip) (l : Logs) (q : ℤ → Point) → r.logs_number ≤ 17 → r.fit_number ≤ 17 → YRange l.y → nat_abs l.z ≤ 5000000
+places_sized : (r : Rule) (s : rust.Option Strip) (l : Logs) (q : ℤ → Point) → r.logs_number ≤ 17 → r.fit_number ≤ 17 → YRange l.y → nat_abs l.z ≤ 5000000
     → (any_place s (λ v. r.beyond_fit (q v).edge.fit) l.y ≡ false → Small r.letter (value_at s q l.y)) → IsSized (held_at r s l q)
 unfolding held_at
 places_sized r s l q m n y_in z_in small = go (any_place s (λ v. r.beyond_logs v l.z) l.y) (any_place s (λ v. r.beyond_fit (q v).edge.fit) l.y) refl
@@ -143,9 +142,11 @@ temperature_sized p d l h = go (region_of l.y l.z) refl
     in_window : beyond_window l.z ≡ false → nat_abs l.z ≤ 5000000
     in_window e = le_trans (window_most l.z e) (lit≤ tt)
 
-    by_strip : (s : Strip) → strip_of l.y ≡ s → any_place s (λ v. beyond_fit (q v).edge.fit) l.y ≡ false → nat_abs (value_at s q l.y) ≤ 2 ^ 53
-    by_strip Clear e f = le_trans (kelvin_most (q l.y).edge.fit f) (lit≤ tt)
-    by_strip (strip.Between a b) e f =
+    by_strip : (s : rust.Option Strip) → strip_of l.y ≡ s → any_place s (λ v. beyond_fit (q v).edge.fit) l.y ≡ false → nat_abs (value_at s q l.y) ≤ 2 ^ 53
+    by_strip None e f = le_trans (kelvin_most (q l.y).edge.fit f) (lit≤ tt)
+    by_strip (Some s) e f =
+        let a = s.low in
+        let b = s.high in
         let g = (q a).edge.fit in
         let k = (q b).edge.fit in
         le_trans
@@ -167,15 +168,17 @@ entropy_sized : (l : Logs) → YRange l.y → PlaceReady l.y l.z → IsSized (en
 unfolding entropy_in
 entropy_sized l r h = by_strip (strip_of l.y) refl
   where
-    verdict : (t : Bool) (s : ℤ) → nat_abs s ≤ 2 ^ 53 → IsSized (cond t (judges 12 letter_s l Unfitted) (shows letter_s l Unfitted Unjoined s))
+    verdict : (t : Bool) (s : ℤ) → nat_abs s ≤ 2 ^ 53 → IsSized (cond t (judges 12 letter_s l Unfitted) (shows letter_s l Unfitted None s))
     verdict true s k = lit≤ tt
     verdict false s k = record { y = r; z = h.z_most; value = itself letter_s s refl k }
 
-    by_strip : (x : Strip) → strip_of l.y ≡ x → IsSized (cond (any_place x (λ p. above_limit p l.z) l.y) (judges 12 letter_s l Unfitted) (shows letter_s l Unfitted Unjoined (joined x (λ p. entropy_at p l.z) l.y)))
-    by_strip Clear e = verdict (above_limit l.y l.z) (entropy_at l.y l.z) (le_trans (entropy_most l.y l.z h.y_most h.z_most) (lit≤ tt))
-    by_strip (strip.Between a b) e =
+    by_strip : (x : rust.Option Strip) → strip_of l.y ≡ x → IsSized (cond (any_place x (λ p. above_limit p l.z) l.y) (judges 12 letter_s l Unfitted) (shows letter_s l Unfitted None (joined x (λ p. entropy_at p l.z) l.y)))
+    by_strip None e = verdict (above_limit l.y l.z) (entropy_at l.y l.z) (le_trans (entropy_most l.y l.z h.y_most h.z_most) (lit≤ tt))
+    by_strip (Some s) e =
+        let a = s.low in
+        let b = s.high in
         let j = strip_ready l.y l.z h.z_most e in
-        verdict (any_place (strip.Between a b) (λ p. above_limit p l.z) l.y) (straight a b (entropy_at a l.z) (entropy_at b l.z) l.y)
+        verdict (any_place (Some s) (λ p. above_limit p l.z) l.y) (straight a b (entropy_at a l.z) (entropy_at b l.z) l.y)
         (le_trans
         (straight_most (2 ^ 43) a b (entropy_at a l.z) (entropy_at b l.z) l.y j.between
         (entropy_most a l.z j.low.y_most j.low.z_most) (entropy_most b l.z j.high.y_most j.high.z_most))
@@ -195,9 +198,11 @@ pressure_sized e d l h =
     small : (k : ℕ) → d ≤ k → (g : ℤ) → beyond_gamma g ≡ false → nat_abs (pressure_of e d g) ≤ k * 10 ^ 4
     small k m g t = pressure_small e d k g (values_ready h).energy m t
 
-    by_strip : (s : Strip) → strip_of l.y ≡ s → any_place s (λ v. beyond_gamma (q v).edge.fit) l.y ≡ false → nat_abs (value_at s q l.y) ≤ 2 ^ 62
-    by_strip Clear i f = le_trans (small 129200000000000 (values_ready h).density (q l.y).edge.fit f) (lit≤ tt)
-    by_strip (strip.Between a b) i f =
+    by_strip : (s : rust.Option Strip) → strip_of l.y ≡ s → any_place s (λ v. beyond_gamma (q v).edge.fit) l.y ≡ false → nat_abs (value_at s q l.y) ≤ 2 ^ 62
+    by_strip None i f = le_trans (small 129200000000000 (values_ready h).density (q l.y).edge.fit f) (lit≤ tt)
+    by_strip (Some s) i f =
+        let a = s.low in
+        let b = s.high in
         let g = (q a).edge.fit in
         let k = (q b).edge.fit in
         let r = pressure.strip_ready h i in
@@ -212,18 +217,18 @@ ranged_sized true true h f = f tt tt
 ranged_sized true false h f = lit≤ tt
 ranged_sized false b h f = lit≤ tt
 
-held_sized : (k : Kind) (p d : ℕ) → IsSized (held_by chosen (property_of k) p d)
-held_sized Temperature p d =
+held_sized : (k : rust.Option Kind) (p d : ℕ) → IsSized (held_by chosen (property_of k) p d)
+held_sized (Some Temperature) p d =
     ranged_sized (is_pressure p) (is_density d) _
     (λ a b. temperature_sized p d (pressure_logs chosen p d) (record { density = b; taken = pressure_logs_lem chosen lawful p d a b }))
-held_sized Entropy e d =
+held_sized (Some Entropy) e d =
     ranged_sized (is_energy e) (is_density d) _
     (λ a b. let t = energy_logs_lem chosen lawful e d a b in
     entropy_sized (energy_logs chosen e d) (y_range d _ b t.y) (place_ready e d _ _ a b t.y t.z))
-held_sized Pressure e d =
+held_sized (Some Pressure) e d =
     ranged_sized (is_energy e) (is_density d) _
     (λ a b. pressure_sized e d (energy_logs chosen e d) (record { energy = a; density = b; taken = energy_logs_lem chosen lawful e d a b }))
-held_sized Unknown p d = lit≤ tt
+held_sized None p d = lit≤ tt
 
 pub answer_sized : (kind first second : ℕ) → IsSized (answer_by chosen kind first second)
 unfolding answer_by
