@@ -6,6 +6,7 @@ ghost use Rattle.digits.specs.Factors.{Multiplies};
 
 // d * e * g / 10^18, rounded down. d * e, d in two parts by 2^24, is divided by 10^9: h is the quotient, and what is left of b the rest.
 // A caller knows g last, so it is multiplied last.
+#[tactic(auto, using(crate::proofs::Product::pressure_is))]
 pub fn pressure(d: u64, e: u64, g: u64) -> u64
     requires { Multiplies d e g }
     ensures { result ≡ d * e * g / 10 ^ 18 }

@@ -4,76 +4,66 @@
 // A minus transition (document 02, request 3) has 10^10 / (1 - e^q), by c / (v - c): within 2 units from 1.9 on, on either side of 0.
 #![tactic(auto)]
 
-ghost use Rattle.std.specs.Prelude.{◌≡◌, ◌+◌, ◌*◌, ◌<◌, ◌≤◌, nat_abs, get_or};
+ghost use Rattle.std.specs.Prelude.{◌≡◌, ◌+◌, ◌*◌, ◌<◌, ◌≤◌, nat_abs};
 ghost use Rattle.weight.specs.Weight.{tolerance, IsWeight, IsMinusWeight};
 ghost use Rattle.weigh.specs.Signs.{is_minus, sign_of};
-ghost use Rattle.weight.specs.Choice.{scale, wholes, sixteenths, inverse, exponential, portion, weight_of, minus_of, above_by, FarEnough, weight_by, Served};
+ghost use Rattle.weight.specs.Choice.{scale, inverse, exponential, portion, weight_of, minus_of, above_by, FarEnough, weight_by, Served};
 
 // scale / e^n, rounded up.
-fn whole(n: u64) -> u64
-    requires { n < 24 }
-    ensures { result ≡ get_or wholes n 0 }
-{
-    match n {
-        0 => 180000000000,
-        1 => 66218299411,
-        2 => 24360350983,
-        3 => 8961672307,
-        4 => 3296815000,
-        5 => 1212830460,
-        6 => 446175392,
-        7 => 164138754,
-        8 => 60383274,
-        9 => 22213765,
-        10 => 8171988,
-        11 => 3006307,
-        12 => 1105959,
-        13 => 406860,
-        14 => 149676,
-        15 => 55063,
-        16 => 20257,
-        17 => 7452,
-        18 => 2742,
-        19 => 1009,
-        20 => 372,
-        21 => 137,
-        22 => 51,
-        _ => 19,
-    }
-}
+static WHOLES: [u64; 24] = [
+    180000000000,
+    66218299411,
+    24360350983,
+    8961672307,
+    3296815000,
+    1212830460,
+    446175392,
+    164138754,
+    60383274,
+    22213765,
+    8171988,
+    3006307,
+    1105959,
+    406860,
+    149676,
+    55063,
+    20257,
+    7452,
+    2742,
+    1009,
+    372,
+    137,
+    51,
+    19,
+];
 
 // scale / e^(j/16), rounded up.
-fn sixteenth(j: u64) -> u64
-    requires { j < 16 }
-    ensures { result ≡ get_or sixteenths j 0 }
-{
-    match j {
-        0 => 180000000000,
-        1 => 169094351307,
-        2 => 158849442466,
-        3 => 149225241273,
-        4 => 140184140953,
-        5 => 131690813211,
-        6 => 123712070183,
-        7 => 116216734758,
-        8 => 109175518749,
-        9 => 102560908452,
-        10 => 96347057134,
-        11 => 90509684035,
-        12 => 85025979494,
-        13 => 79874515815,
-        14 => 75035163543,
-        _ => 70489012802,
-    }
-}
+static SIXTEENTHS: [u64; 16] = [
+    180000000000,
+    169094351307,
+    158849442466,
+    149225241273,
+    140184140953,
+    131690813211,
+    123712070183,
+    116216734758,
+    109175518749,
+    102560908452,
+    96347057134,
+    90509684035,
+    85025979494,
+    79874515815,
+    75035163543,
+    70489012802,
+];
 
 // scale / e^(i/16): the product of two entries over scale = 10^4 * 1.8 * 10^7, one entry split at four digits.
 fn inverse_at(i: u64) -> u64
     requires { i < 384 }
     ensures { result ≡ inverse i }
 {
-    let a = whole(i / 16);
-    let b = sixteenth(i % 16);
+    let a = WHOLES[(i / 16) as usize];
+    let b = SIXTEENTHS[(i % 16) as usize];
     (a / 10000 * b + a % 10000 * b / 10000) / 18000000 + 1
 }
 
