@@ -1,4 +1,5 @@
 -- What C gets is made of an answer that document 01 allows.
+use Rattle.std.specs.Prelude.{Ok, Err, Result}
 use mathlib.Core.Bool.{Bool, true, false, cond}
 use mathlib.Core.List.{List, [], ◌∷◌}
 use mathlib.Core.Path.{◌≡◌, refl, sym, ap, subst, ◌∙◌}
@@ -13,8 +14,6 @@ use Rattle.name.specs.Spelling.{spelled}
 use Rattle.sheet_record.specs.declared.Record.{Record}
 use Rattle.sheet_record.specs.Front.{name_in}
 use Rattle.sheet.specs.Sheet.{Sheet, records, sheet_of}
-use Rattle.sheet_search.specs.declared.Lookup.{Lookup}
-use Rattle.sheet_search.specs.declared.Lookup.TheVariants.{Hit, Miss}
 use Rattle.sheet_walk.specs.Records.{record_in}
 use Rattle.air.specs.Choices.{chosen}
 use Rattle.air.specs.Held.{Held, held}
@@ -84,7 +83,7 @@ module _ (sheet names room last : List ℕ) (c : CText) where
       }
 
 -- a step of a walk
-none_left : (rs : List Record) (i : ℕ) {k : ℕ} → record_in rs i ≡ Miss k → length rs ≤ i
+none_left : (rs : List Record) (i : ℕ) {k : ℕ} → record_in rs i ≡ Err k → length rs ≤ i
 unfolding record_in
 none_left [] i e = omega arith
 none_left (r ∷ rs) zero e = let f : ◌≡◌ {A = ℕ} 0 1 = cc in absurd (omega arith)
@@ -94,9 +93,9 @@ step_allowed : (s : List ℕ) (w : Walk) (room : ℕ) → IsStep s w room (stepp
 unfolding stepped
 step_allowed s w room = go (sheet_of s) refl
   where
-    next : (rs : List Record) → sheet_of s ≡ records rs → w.given < w.count → (f : Lookup) → record_in rs w.given ≡ f → IsStep s w room (fitting room (line_at chosen s f))
-    next rs p l (Miss k) e = subst (IsStep s w room) (sym (fits room [] (omega arith))) (IsStep.past p (none_left rs w.given e))
-    next rs p l (Hit r) e =
+    next : (rs : List Record) → sheet_of s ≡ records rs → w.given < w.count → (f : Result Record ℕ) → record_in rs w.given ≡ f → IsStep s w room (fitting room (line_at chosen s f))
+    next rs p l (Err k) e = subst (IsStep s w room) (sym (fits room [] (omega arith))) (IsStep.past p (none_left rs w.given e))
+    next rs p l (Ok r) e =
         let h = state chosen r.kind r.first r.second in
         subst (λ (x : Held). IsStep s w room (fitting room (line_of (spelled (name_in s r)) x))) h.holds
         (IsStep.line h.answer p l e (allowed chosen lawful r.kind r.first r.second h.answer h.holds))

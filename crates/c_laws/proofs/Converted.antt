@@ -1,4 +1,5 @@
 -- Request 6 over what C gets: a converted sheet has the page of the sheet.
+use Rattle.std.specs.Prelude.{Ok, Err, Result}
 use mathlib.Core.List.{List}
 use mathlib.Core.Path.{◌≡◌, refl}
 use Prim.Native.Nat.{ℕ, ◌≤◌}
@@ -8,8 +9,6 @@ use Rattle.octets.specs.Room.{Text, refused, text}
 use Rattle.name.specs.Name.{name_of}
 use Rattle.sheet_record.specs.declared.Record.{Record}
 use Rattle.sheet.specs.Sheet.{records, sheet_of, records_of}
-use Rattle.sheet_search.specs.declared.Lookup.{Lookup}
-use Rattle.sheet_search.specs.declared.Lookup.TheVariants.{Hit, Miss}
 use Rattle.sheet_search.specs.Find.{find_in}
 use Rattle.sheet_search.proofs.Pages.{reply_of}
 use Rattle.sheet_search.proofs.Searching.{Finding, hit, finding}
@@ -31,10 +30,10 @@ use Rattle.c_laws.proofs.Rooms.{in_room}
 
 -- what a search finds in a sheet without a remark has none
 module _ (s : List ℕ) (rs : List Record) (e : sheet_of s ≡ records rs) (n : NoRemark s rs) where
-  found_bare : (l : Lookup) → (name : List ℕ) → Finding s rs name l → (flat_remark (remark_of s l)).length ≡ 0
+  found_bare : (l : Result Record ℕ) → (name : List ℕ) → Finding s rs name l → (flat_remark (remark_of s l)).length ≡ 0
   unfolding flat_remark
-  found_bare (Hit r) name (hit m k) = n r m
-  found_bare (Miss k) name f = refl
+  found_bare (Ok r) name (hit m k) = n r m
+  found_bare (Err k) name f = refl
 
   named_bare : (t : Text) → (flat_remark (remark_of s (locate_name s rs t))).length ≡ 0
   unfolding flat_remark
@@ -46,12 +45,12 @@ module _ (s : List ℕ) (rs : List Record) (e : sheet_of s ≡ records rs) (n : 
   located_bare spelling = rw e (named_bare (name_of spelling))
 
 -- the number of a remark is that of its search
-remark_number : (s t : List ℕ) (l k : Lookup) → reply_of s l ≡ reply_of t k → (flat_remark (remark_of s l)).number ≡ (flat_remark (remark_of t k)).number
+remark_number : (s t : List ℕ) (l k : Result Record ℕ) → reply_of s l ≡ reply_of t k → (flat_remark (remark_of s l)).number ≡ (flat_remark (remark_of t k)).number
 unfolding flat_remark
-remark_number s t (Miss m) (Miss n) e = cc
-remark_number s t (Miss m) (Hit q) e = let f : ◌≡◌ {A = ℕ} 0 1 = cc in absurd (omega arith)
-remark_number s t (Hit r) (Miss n) e = let f : ◌≡◌ {A = ℕ} 0 1 = cc in absurd (omega arith)
-remark_number s t (Hit r) (Hit q) e = refl
+remark_number s t (Err m) (Err n) e = cc
+remark_number s t (Err m) (Ok q) e = let f : ◌≡◌ {A = ℕ} 0 1 = cc in absurd (omega arith)
+remark_number s t (Ok r) (Err n) e = let f : ◌≡◌ {A = ℕ} 0 1 = cc in absurd (omega arith)
+remark_number s t (Ok r) (Ok q) e = refl
 
 kept : {v w : ℕ} → Version v → Version w → (other : List ℕ → ℕ → Text) (s t : List ℕ) → Turned v w s t → ((room : ℕ) → length s ≤ room → other t room ≡ text s) → Kept other s t
 kept k j other s t h r =

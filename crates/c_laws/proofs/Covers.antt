@@ -1,4 +1,5 @@
 -- A walk in rooms of `line_room` bytes covers its records, over what C gets.
+use Rattle.std.specs.Prelude.{Ok, Err, Result}
 use mathlib.Core.Bool.{Bool, true, false, cond}
 use mathlib.Core.List.Memᴰ
 use mathlib.Core.List.{List, [], ◌∷◌, ◌++◌}
@@ -19,8 +20,6 @@ use Rattle.state.specs.State.{answer_by}
 use Rattle.sheet_record.specs.declared.Record.{Record}
 use Rattle.sheet.specs.Sheet.{Sheet, records, sheet_of}
 use Rattle.sheet_version.proofs.Version.{read_of}
-use Rattle.sheet_search.specs.declared.Lookup.{Lookup}
-use Rattle.sheet_search.specs.declared.Lookup.TheVariants.{Hit, Miss}
 use Rattle.sheet_walk.specs.Records.{record_in, record_by}
 use Rattle.sheet_walk.proofs.Pages.{numbered_fit}
 use Rattle.append.specs.Add.{added}
@@ -42,9 +41,9 @@ module _ (s : List ℕ) (rs : List Record) (reads : sheet_of s ≡ records rs) w
   next_short : (w : Walk) → length (next_line chosen s rs w) ≤ line_room
   next_short w = go (ltb w.given w.count) (record_in rs w.given) (ap (λ (x : Sheet). record_by x w.given) reads)
     where
-      go : (b : Bool) (f : Lookup) → record_by (sheet_of s) w.given ≡ f → length (cond b (line_at chosen s f) []) ≤ line_room
-      go true (Hit r) e = fit_short s r (numbered_fit s w.given e)
-      go true (Miss k) e = omega arith
+      go : (b : Bool) (f : Result Record ℕ) → record_by (sheet_of s) w.given ≡ f → length (cond b (line_at chosen s f) []) ≤ line_room
+      go true (Ok r) e = fit_short s r (numbered_fit s w.given e)
+      go true (Err k) e = omega arith
       go false f e = omega arith
 
   same_room : (w : Walk) (room : ℕ) → line_room ≤ room → stepped chosen s w room ≡ text (next_line chosen s rs w)

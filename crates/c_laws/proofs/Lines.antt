@@ -1,4 +1,5 @@
 -- A line takes at most `line_room` bytes: of a record, and of any search; and a listing as many for each name.
+use Rattle.std.specs.Prelude.{Ok, Err, Result}
 use mathlib.Core.Bool.{Bool, true, false, cond, not, ◌||◌}
 use mathlib.Core.List.{List, [], ◌∷◌, ◌++◌, Memᴰ}
 use mathlib.Core.Option.{Option, none, some}
@@ -29,8 +30,6 @@ use Rattle.sheet_record.specs.Front.{Fields, Front, bad, front, front_of, fields
 use Rattle.sheet_record.specs.declared.Record.{Record}
 use Rattle.sheet_head.specs.Head.{is_marked}
 use Rattle.sheet.specs.Sheet.{Sheet, refused, records, seen, walk, with_layout, sheet_by, sheet_of, number_of}
-use Rattle.sheet_search.specs.declared.Lookup.{Lookup}
-use Rattle.sheet_search.specs.declared.Lookup.TheVariants.{Hit, Miss}
 use Rattle.sheet_search.specs.Find.{find_in}
 use Rattle.sheet_search.proofs.Locate.{Fit, finds}
 use Rattle.sheet_search.proofs.Searching.{Finding, miss, finding}
@@ -77,9 +76,9 @@ record_short s rs e r m = fit_short s r (finds layout_of s rs r e m).fit
 
 -- ---- any search
 -- a refused one has a number of at most 16
-abbrev Few : Lookup → Type 0
-Few (Miss n) = n ≤ 16
-Few (Hit r) = Unit
+abbrev Few : Result Record ℕ → Type 0
+Few (Err n) = n ≤ 16
+Few (Ok r) = Unit
 
 front_few : (y : Layout) (u : List ℕ) → fault_of (front_of y u) ≤ 16
 unfolding front_of
@@ -133,9 +132,9 @@ name_few : (x : Reading) (s : List ℕ) (rs : List Record) → Few (locate_name 
 name_few wrong s rs = lit≤ tt
 name_few (bytes bs) s rs = sized (is_length (length bs))
   where
-    found : (f : Lookup) → Finding s rs bs f → Few f
-    found (Hit r) v = tt
-    found (Miss k) miss = lit≤ tt
+    found : (f : Result Record ℕ) → Finding s rs bs f → Few f
+    found (Ok r) v = tt
+    found (Err k) miss = lit≤ tt
 
     sized : (b : Bool) → Few (locate_name s rs (cond b (text bs) (Room.refused 8)))
     sized true = found (find_in s rs bs) (finding s rs bs)
@@ -153,9 +152,9 @@ search_sized : (s spelling : List ℕ) → IsSized (search_by chosen s spelling)
 unfolding search_by
 search_sized s spelling = go (locate s spelling) (located_few s spelling)
   where
-    go : (f : Lookup) → Few f → IsSized (answer_at chosen f)
-    go (Miss n) h = le_trans h (lit≤ tt)
-    go (Hit r) h = answer_sized r.kind r.first r.second
+    go : (f : Result Record ℕ) → Few f → IsSized (answer_at chosen f)
+    go (Err n) h = le_trans h (lit≤ tt)
+    go (Ok r) h = answer_sized r.kind r.first r.second
 
 search_short : (s spelling : List ℕ) → length (line spelling (search_by chosen s spelling)) ≤ line_room
 unfolding line

@@ -1,4 +1,5 @@
 -- What a search holds can be drawn exactly, and is drawn so.
+use Rattle.std.specs.Prelude.{Ok, Err, Result}
 use mathlib.Core.Bool.{Bool, true, false, cond}
 use mathlib.Core.List.{List}
 use mathlib.Core.Option.{none, some}
@@ -9,28 +10,25 @@ use lib.IntN.{ℤ}
 use Rattle.air.specs.declared.Logs.{Logs}
 use Rattle.air.specs.Held.{Held}
 use Rattle.air.specs.Choices.{chosen}
-use Rattle.mark.specs.declared.Mark.TheVariants.{At}
 use Rattle.mark.specs.Mark.{point_of, shown_value, mark_of, Drawable, CanDraw}
 use Rattle.mark.proofs.Placed.{stands}
 use Rattle.drawable.proofs.Answers.{answer_shown}
-use Rattle.sheet_search.specs.declared.Lookup.{Lookup}
-use Rattle.sheet_search.specs.declared.Lookup.TheVariants.{Hit, Miss}
 use Rattle.calculator.specs.Search.{locate, answer_at, search_by}
 use Rattle.flat_parts.specs.Flat.{flat_mark}
 use Rattle.flat.specs.Back.{bit, held_in}
 use Rattle.flat.proofs.Back.{settled, back}
 use Rattle.c_laws.specs.Plot.{Points, PlotExact}
 
-at_shown : (f : Lookup) → CanDraw (answer_at chosen f)
-at_shown (Miss n) = tt
-at_shown (Hit r) = answer_shown r.kind r.first r.second
+at_shown : (f : Result Record ℕ) → CanDraw (answer_at chosen f)
+at_shown (Err n) = tt
+at_shown (Ok r) = answer_shown r.kind r.first r.second
 
 pub search_shown : (s spelling : List ℕ) → CanDraw (search_by chosen s spelling)
 unfolding search_by
 search_shown s spelling = at_shown (locate s spelling)
 
 -- the mark of Y and a value that can be drawn
-points : (y v : ℤ) → Drawable y v → Points (flat_mark (At (point_of y v))) y v
+points : (y v : ℤ) → Drawable y v → Points (flat_mark (Ok (point_of y v))) y v
 unfolding flat_mark
 points y v d = let p = stands y v d in record { no_blank = refl; across = p.across; up = p.up }
 

@@ -1,6 +1,6 @@
 -- Request 5 over what C gets: two sheets that differ only in remarks. Each equation is between what two calls give by their contracts.
 use mathlib.Core.List.{List, Memᴰ}
-use Rattle.std.specs.Prelude.{◌≡◌, ℕ}
+use Rattle.std.specs.Prelude.{◌≡◌, ℕ, Ok}
 use Rattle.octets.specs.Bytes.{part}
 use Rattle.octets.specs.Room.{text}
 use Rattle.name.specs.Name.{name_of}
@@ -10,7 +10,6 @@ use Rattle.sheet_record.specs.declared.Record.{Record}
 use Rattle.sheet_record.specs.Front.{name_in}
 use Rattle.sheet.specs.Sheet.{records, sheet_of, number_of}
 use Rattle.sheet_search.specs.Remarks.{DifferInRemarks}
-use Rattle.sheet_search.specs.declared.Lookup.TheVariants.{Hit}
 use Rattle.sheet_remark.specs.Remark.{remark_in, remark_of, remark_bytes}
 use Rattle.sheet_walk.specs.Records.{record_of}
 use Rattle.convert.specs.Convert.{forward}
@@ -58,7 +57,7 @@ pub record HoldsRemark (s : List ℕ) (r : Record) (c : CPart) : Type 0 where
   pub no_refusal : c.number ≡ 0
   pub start_is : c.start ≡ (remark_in s r).start
   pub length_is : c.length ≡ (remark_in s r).len
-  pub bytes : part s c.start c.length ≡ remark_bytes s (remark_of s (Hit r))
+  pub bytes : part s c.start c.length ≡ remark_bytes s (remark_of s (Ok r))
 
 -- any accepted sheet, any record of it, any spelling that reads to its name: what `eas_remark` gives has that record's remark
 abbrev pub FoundRemark : Type 0

@@ -1,4 +1,5 @@
 -- Demand 3, and that what lawful choices make of a search is allowed.
+use Rattle.std.specs.Prelude.{Ok, Err, Result}
 use mathlib.Core.List.{List, Memᴰ}
 use mathlib.Core.Path.{◌≡◌, ap, ◌∙◌, subst}
 use Prim.Native.Nat.{ℕ}
@@ -6,8 +7,6 @@ use lib.Dec.{lit≤}
 use Rattle.octets.specs.Room.{text}
 use Rattle.name.specs.Name.{name_of}
 use Rattle.sheet_record.specs.declared.Record.{Record}
-use Rattle.sheet_search.specs.declared.Lookup.{Lookup}
-use Rattle.sheet_search.specs.declared.Lookup.TheVariants.{Hit, Miss}
 use Rattle.sheet_record.specs.Layout.{layout_of}
 use Rattle.sheet_record.specs.Front.{name_in}
 use Rattle.sheet.specs.Sheet.{records, sheet_of}
@@ -35,18 +34,18 @@ unless_refused_lem kind first second a it zero = answered kind first second a it
 
 -- any valid spelling of a record's name finds that record
 pub locates : (s : List ℕ) (rs : List Record) (r : Record) (spelling : List ℕ)
-    → sheet_of s ≡ records rs → Memᴰ r rs → name_of spelling ≡ text (name_in s r) → locate s spelling ≡ Hit r
+    → sheet_of s ≡ records rs → Memᴰ r rs → name_of spelling ≡ text (name_in s r) → locate s spelling ≡ Ok r
 unfolding locate
 locates s rs r spelling e m k = ap (locate_in s spelling) e ∙ ap (locate_name s rs) k ∙ (finds layout_of s rs r e m).found
 
 pub demand3 : Demand3
 unfolding IsSearch
 demand3 s rs r spelling a e m k searched ok =
-    answered r.kind r.first r.second a (subst (λ (f : Lookup). AnswerAt f a) (locates s rs r spelling e m k) searched) ok
+    answered r.kind r.first r.second a (subst (λ (f : Result Record ℕ). AnswerAt f a) (locates s rs r spelling e m k) searched) ok
 
-allowed_at : (c : Choices) → Lawful c → (f : Lookup) (a : Answer) → held a ≡ answer_at c f → AnswerAt f a
-allowed_at c law (Miss n) a e = e
-allowed_at c law (Hit r) a e = allowed c law r.kind r.first r.second a e
+allowed_at : (c : Choices) → Lawful c → (f : Result Record ℕ) (a : Answer) → held a ≡ answer_at c f → AnswerAt f a
+allowed_at c law (Err n) a e = e
+allowed_at c law (Ok r) a e = allowed c law r.kind r.first r.second a e
 
 -- what lawful choices make of a search is an answer that document 01 allows
 pub search_allowed : (c : Choices) → Lawful c → (s spelling : List ℕ) (a : Answer) → held a ≡ search_by c s spelling → IsSearch s spelling a

@@ -1,4 +1,5 @@
 -- What a search hands back is the found record's name, or nothing where it refuses.
+use Rattle.std.specs.Prelude.{Ok, Err, Result}
 use mathlib.Core.Bool.{Bool, true, false, cond}
 use mathlib.Core.List.{List}
 use mathlib.Core.Path.{◌≡◌, refl, sym, ap, ◌∙◌}
@@ -10,8 +11,6 @@ use Rattle.octets.specs.Room
 use Rattle.name.specs.Spelling.{Reading, wrong, bytes, reading}
 use Rattle.name.specs.Name.{is_length, judged, name_of}
 use Rattle.sheet_record.specs.declared.Record.{Record}
-use Rattle.sheet_search.specs.declared.Lookup.{Lookup}
-use Rattle.sheet_search.specs.declared.Lookup.TheVariants.{Hit, Miss}
 use Rattle.sheet.specs.Sheet.{Sheet, records, sheet_of, number_of}
 use Rattle.sheet.proofs.Counted.{accepted_records}
 use Rattle.sheet_search.specs.Find.{find_in, handed_back}
@@ -46,16 +45,16 @@ name_never spelling {k} e z = go (reading spelling) (e ∙ ap Room.refused z)
         sized false h = let f : ◌≡◌ {A = ℕ} 8 0 = cc in omega arith
 
 module _ (s spelling : List ℕ) (a : Answer) where
-  abbrev Named : Lookup → Type 0
+  abbrev Named : Result Record ℕ → Type 0
   Named f = NamedAnswer s spelling a (handed_back s f)
 
   named : (rs : List Record) → sheet_of s ≡ records rs → (t : Text) → name_of spelling ≡ t → AnswerAt (locate_name s rs t) a → Named (locate_name s rs t)
   named rs e (Room.refused k) p h = refused _ h (name_never spelling p)
   named rs e (text name) p h = go (find_in s rs name) (finding s rs name) h
     where
-      go : (f : Lookup) → Finding s rs name f → AnswerAt f a → Named f
-      go (Hit r) (hit m q) l = found e m (p ∙ ap text (sym q)) l
-      go (Miss n) miss l = refused _ l (λ z. omega arith)
+      go : (f : Result Record ℕ) → Finding s rs name f → AnswerAt f a → Named f
+      go (Ok r) (hit m q) l = found e m (p ∙ ap text (sym q)) l
+      go (Err n) miss l = refused _ l (λ z. omega arith)
 
   searched : (x : Sheet) → sheet_of s ≡ x → AnswerAt (locate_in s spelling x) a → Named (locate_in s spelling x)
   searched (Sheet.refused n) e h = refused _ h (λ z. sheet_never s (e ∙ ap Sheet.refused z))

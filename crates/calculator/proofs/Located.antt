@@ -1,11 +1,11 @@
 -- What the steps of a search amount to, over the definitions.
+use Rattle.std.specs.Prelude.{Err}
 use mathlib.Core.List.{List}
 use mathlib.Core.Path.{◌≡◌, refl, sym, ap, ◌∙◌, subst}
 use Prim.Native.Nat.{ℕ}
 use Rattle.octets.specs.Room.{Text, text, refused}
 use Rattle.name.specs.Name.{name_of}
 use Rattle.sheet_record.specs.declared.Record.{Record}
-use Rattle.sheet_search.specs.declared.Lookup.TheVariants.{Miss}
 use Rattle.sheet.specs.Sheet.{Sheet, records, sheet_of, number_of, Accepted}
 use Rattle.sheet_search.specs.Find.{find_by, find_of, Inside}
 use Rattle.sheet.proofs.Accept.{accepted_is}
@@ -14,7 +14,7 @@ use Rattle.calculator.specs.Search.{locate_name, locate_in, locate}
 
 module _ (s spelling : List ℕ) where
   -- a checked sheet, and a name that is refused or read
-  pub name_refused : (k : ℕ) → Accepted s → name_of spelling ≡ refused k → Miss k ≡ locate s spelling
+  pub name_refused : (k : ℕ) → Accepted s → name_of spelling ≡ refused k → Err k ≡ locate s spelling
   unfolding locate
   name_refused k h e =
       sym (ap (locate_in s spelling) (accepted_is s h) ∙ ap (locate_name s _) e)
@@ -25,12 +25,12 @@ module _ (s spelling : List ℕ) where
       ap (λ (x : Sheet). find_by x s name) (accepted_is s h) ∙ sym (ap (locate_in s spelling) (accepted_is s h) ∙ ap (locate_name s _) e)
 
   -- a sheet that its check refuses
-  pub sheet_refused : (n : ℕ) → n ≡ number_of (sheet_of s) → (n ≡ 0 → ⊥) → Miss n ≡ locate s spelling
+  pub sheet_refused : (n : ℕ) → n ≡ number_of (sheet_of s) → (n ≡ 0 → ⊥) → Err n ≡ locate s spelling
   unfolding locate
   sheet_refused n e k = go (sheet_of s) e
     where
-      go : (x : Sheet) → n ≡ number_of x → Miss n ≡ locate_in s spelling x
-      go (Sheet.refused m) h = ap Miss h
+      go : (x : Sheet) → n ≡ number_of x → Err n ≡ locate_in s spelling x
+      go (Sheet.refused m) h = ap Err h
       go (records rs) h = absurd (k h)
 
   -- what is found lies in the sheet

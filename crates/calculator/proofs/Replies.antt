@@ -1,11 +1,10 @@
 -- What a search finds and holds follows from the sheet's page: the places of its records do not matter.
+use Rattle.std.specs.Prelude.{Ok, Err, Result}
 use mathlib.Core.List.{List}
 use mathlib.Core.Path.{◌≡◌, refl, sym, ap, subst, ◌∙◌}
 use Prim.Native.Nat.{ℕ}
 use Rattle.octets.specs.Room.{Text, text, refused}
 use Rattle.name.specs.Name.{name_of}
-use Rattle.sheet_search.specs.declared.Lookup.{Lookup}
-use Rattle.sheet_search.specs.declared.Lookup.TheVariants.{Hit, Miss}
 use Rattle.sheet_record.specs.declared.Record.{Record}
 use Rattle.sheet_search.specs.Find.{handed_back}
 use Rattle.sheet.specs.Sheet.{Sheet, records, sheet_of}
@@ -37,22 +36,22 @@ abbrev reply_held : Choices → Reply → Held
 reply_held c (missed k) = refuses k
 reply_held c (found e) = answer_by c e.kind e.first e.second
 
-held_reply : (c : Choices) (s : List ℕ) (l : Lookup) → answer_at c l ≡ reply_held c (reply_of s l)
-held_reply c s (Miss k) = refl
-held_reply c s (Hit r) = refl
+held_reply : (c : Choices) (s : List ℕ) (l : Result Record ℕ) → answer_at c l ≡ reply_held c (reply_of s l)
+held_reply c s (Err k) = refl
+held_reply c s (Ok r) = refl
 
 -- the answers that a reply allows
 abbrev ReplyAllows : Reply → Answer → Type 0
 ReplyAllows (missed k) a = held a ≡ refuses k
 ReplyAllows (found e) a = IsAnswer e.kind e.first e.second a
 
-reply_allows : (s : List ℕ) (l : Lookup) (a : Answer) → AnswerAt l a → ReplyAllows (reply_of s l) a
-reply_allows s (Miss k) a h = h
-reply_allows s (Hit r) a h = h
+reply_allows : (s : List ℕ) (l : Result Record ℕ) (a : Answer) → AnswerAt l a → ReplyAllows (reply_of s l) a
+reply_allows s (Err k) a h = h
+reply_allows s (Ok r) a h = h
 
-allows_reply : (s : List ℕ) (l : Lookup) (a : Answer) → ReplyAllows (reply_of s l) a → AnswerAt l a
-allows_reply s (Miss k) a h = h
-allows_reply s (Hit r) a h = h
+allows_reply : (s : List ℕ) (l : Result Record ℕ) (a : Answer) → ReplyAllows (reply_of s l) a → AnswerAt l a
+allows_reply s (Err k) a h = h
+allows_reply s (Ok r) a h = h
 
 module _ (s t spelling : List ℕ) (e : page_of s (sheet_of s) ≡ page_of t (sheet_of t)) where
   pub same_reply : reply_of s (locate s spelling) ≡ reply_of t (locate t spelling)

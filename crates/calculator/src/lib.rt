@@ -2,7 +2,7 @@
 #![tactic(auto)]
 
 ghost use Rattle.std.specs.Prelude.{◌≡◌};
-ghost use Rattle.sheet.specs.Index.{Indexed};
+ghost use Rattle.refusal.specs.Numbered.{numbered};
 ghost use Rattle.sheet_remark.specs.Remark.{remark_of, RemarkInside};
 ghost use Rattle.air.specs.Held.{held};
 ghost use Rattle.air.specs.Choices.{chosen};
@@ -10,66 +10,44 @@ ghost use Rattle.calculator.specs.Search.{locate, answer_at, IsSearch, search_by
 ghost use Rattle.calculator.specs.FoundName.{found_name};
 
 use air::Answer;
-use octets::Outcome;
-use sheet_remark::Remark;
-use sheet_search::Lookup;
+use distinct::Index;
+use refusal::Refusal;
+use sheet::Sheet;
+use sheet_record::Record;
+use sheet_remark::Part;
 
-// The record that a spelling finds in a sheet that is indexed.
-pub fn locate_in(
-    sheet: &[u8],
-    starts: &[u16; 3449],
-    heads: &[u16; 4096],
-    next: &[u16; 3449],
-    spelled: &[u8],
-) -> Lookup
-    requires { Indexed sheet.now starts.now heads.now next.now }
-    ensures { result ≡ locate sheet.now spelled.now }
+// The record that a spelling finds in an accepted sheet.
+pub fn locate_in(sheet: &Sheet, spelled: &[u8]) -> Result<Record, Refusal>
+    ensures { numbered result ≡ locate sheet.now spelled.now }
 {
-    let name = name_reader::read(spelled);
-    let bytes = name.bytes;
-    let outcome = name.outcome;
-    match outcome {
-        Outcome::Refused(number) => Lookup::Miss(number),
-        Outcome::Done(n) => sheet_search::find(sheet, starts, heads, next, &bytes[..n]),
-    }
+    let name = name_reader::read(spelled)?;
+    sheet_search::find(sheet, &name)
 }
 
 // The record that a spelling finds in any bytes: the sheet's refusals, then the name's, then 9.
-pub fn locate(sheet: &[u8], spelled: &[u8]) -> Lookup
-    ensures { result ≡ locate sheet.now spelled.now }
+pub fn locate(sheet: &[u8], spelled: &[u8]) -> Result<Record, Refusal>
+    ensures { numbered result ≡ locate sheet.now spelled.now }
 {
-    let mut starts = distinct::no_links();
-    let mut heads = distinct::no_heads();
-    let mut next = distinct::no_links();
-    let number = sheet::index(sheet, &mut starts, &mut heads, &mut next);
-    if number != 0 {
-        return Lookup::Miss(number);
-    }
-    locate_in(sheet, &starts, &heads, &next, spelled)
+    let mut room = Index::blank();
+    let sheet = sheet::index(sheet, &mut room)?;
+    locate_in(&sheet, spelled)
 }
 
 // The answer for what was found.
-fn answer_at(found: Lookup) -> Answer
-    ensures { held result ≡ answer_at chosen found }
+fn answer_at(found: Result<Record, Refusal>) -> Answer
+    ensures { held result ≡ answer_at chosen (numbered found) }
 {
     match found {
-        Lookup::Miss(number) => Answer::Refused(number),
-        Lookup::Hit(record) => evaluate::evaluate(record.kind, record.first, record.second),
+        Err(refusal) => Answer::Refused(refusal),
+        Ok(record) => evaluate::evaluate(record.kind, record.first, record.second),
     }
 }
 
-// The answer for a spelling in a sheet that is indexed.
-pub fn answer_in(
-    sheet: &[u8],
-    starts: &[u16; 3449],
-    heads: &[u16; 4096],
-    next: &[u16; 3449],
-    spelled: &[u8],
-) -> Answer
-    requires { Indexed sheet.now starts.now heads.now next.now }
+// The answer for a spelling in an accepted sheet.
+pub fn answer_in(sheet: &Sheet, spelled: &[u8]) -> Answer
     ensures { held result ≡ search_by chosen sheet.now spelled.now }
 {
-    answer_at(locate_in(sheet, starts, heads, next, spelled))
+    answer_at(locate_in(sheet, spelled))
 }
 
 // The answer for a sheet and a spelling of any bytes: the one that the program's choices make, which is one that is allowed.
@@ -88,9 +66,9 @@ pub fn found_name<'a, 'b>(sheet: &'a [u8], spelled: &'b [u8]) -> &'a [u8]
 }
 
 // The remark of the record that a search finds, as the part of the sheet that holds it.
-pub fn found_remark(sheet: &[u8], spelled: &[u8]) -> Remark
-    ensures value { result ≡ remark_of sheet.now (locate sheet.now spelled.now) }
-    ensures remark_inside { RemarkInside sheet.now result }
+pub fn found_remark(sheet: &[u8], spelled: &[u8]) -> Result<Part, Refusal>
+    ensures value { numbered result ≡ remark_of sheet.now (locate sheet.now spelled.now) }
+    ensures remark_inside { RemarkInside sheet.now (numbered result) }
 {
     sheet_remark::remark_of(sheet, locate(sheet, spelled))
 }

@@ -2,12 +2,13 @@
 #![tactic(auto)]
 
 ghost use Rattle.std.specs.Prelude.{◌≡◌};
+ghost use Rattle.refusal.specs.Numbered.{numbered, number_or_0};
 ghost use Rattle.flat_parts.specs.Flat.{flat_found, flat_remark, flat_text, flat_mark};
 
-use mark::Mark;
-use octets::Outcome;
-use sheet_remark::Remark;
-use sheet_search::Lookup;
+use mark::Point;
+use refusal::Refusal;
+use sheet_record::Record;
+use sheet_remark::Part;
 
 #[repr(C)]
 #[derive(Clone, Copy)]
@@ -49,30 +50,43 @@ pub struct CMark {
     pub point: CPoint,
 }
 
-// A text's length or refusal as C takes it.
-pub fn flatten_text(t: Outcome) -> CText
-    ensures { result ≡ flat_text t }
+// The number of a refusal, or 0.
+pub fn flatten_check(checked: Result<(), Refusal>) -> u32
+    ensures { result ≡ number_or_0 checked }
 {
-    match t {
-        Outcome::Refused(number) => CText { number, length: 0 },
-        Outcome::Done(length) => CText { number: 0, length },
+    match checked {
+        Err(refusal) => refusal.number(),
+        Ok(()) => 0,
+    }
+}
+
+// A text's length or refusal as C takes it.
+pub fn flatten_text(text: Result<usize, Refusal>) -> CText
+    ensures { result ≡ flat_text (numbered text) }
+{
+    match text {
+        Err(refusal) => CText {
+            number: refusal.number(),
+            length: 0,
+        },
+        Ok(length) => CText { number: 0, length },
     }
 }
 
 // A mark as C takes it.
-pub fn flatten_mark(m: Mark) -> CMark
-    ensures { result ≡ flat_mark m }
+pub fn flatten_mark(mark: Result<Point, Refusal>) -> CMark
+    ensures { result ≡ flat_mark (numbered mark) }
 {
-    match m {
-        Mark::At(p) => CMark {
+    match mark {
+        Ok(point) => CMark {
             blank: 0,
             point: CPoint {
-                across: p.across,
-                up: p.up,
+                across: point.across,
+                up: point.up,
             },
         },
-        Mark::Blank(number) => CMark {
-            blank: number,
+        Err(refusal) => CMark {
+            blank: refusal.number(),
             point: CPoint {
                 across: 0.0,
                 up: 0.0,
@@ -82,43 +96,43 @@ pub fn flatten_mark(m: Mark) -> CMark
 }
 
 // A found record as C takes it.
-pub fn flatten_found(found: Lookup) -> CRecord
-    ensures { result ≡ flat_found found }
+pub fn flatten_found(found: Result<Record, Refusal>) -> CRecord
+    ensures { result ≡ flat_found (numbered found) }
 {
     match found {
-        Lookup::Miss(number) => CRecord {
-            number,
+        Err(refusal) => CRecord {
+            number: refusal.number(),
             kind: 0,
             first: 0,
             second: 0,
             start: 0,
             length: 0,
         },
-        Lookup::Hit(r) => CRecord {
+        Ok(record) => CRecord {
             number: 0,
-            kind: r.kind as u32,
-            first: r.first,
-            second: r.second,
-            start: r.start,
-            length: r.len,
+            kind: u32::from(record.kind),
+            first: record.first,
+            second: record.second,
+            start: record.start,
+            length: record.len,
         },
     }
 }
 
 // A remark as C takes it.
-pub fn flatten_remark(remark: Remark) -> CPart
-    ensures { result ≡ flat_remark remark }
+pub fn flatten_remark(remark: Result<Part, Refusal>) -> CPart
+    ensures { result ≡ flat_remark (numbered remark) }
 {
     match remark {
-        Remark::Refused(number) => CPart {
-            number,
+        Err(refusal) => CPart {
+            number: refusal.number(),
             start: 0,
             length: 0,
         },
-        Remark::At(p) => CPart {
+        Ok(part) => CPart {
             number: 0,
-            start: p.start,
-            length: p.len,
+            start: part.start,
+            length: part.len,
         },
     }
 }

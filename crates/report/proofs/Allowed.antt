@@ -1,5 +1,6 @@
 -- What lawful choices make of a sheet and a list is an output that document 01 allows.
 -- Assumes nothing.
+use Rattle.std.specs.Prelude.{Ok, Err, Result}
 use mathlib.Core.Bool.{Bool, true, false, cond}
 use mathlib.Core.List.{List, [], ◌∷◌, ◌++◌}
 use mathlib.Core.Path.{◌≡◌, refl, subst}
@@ -27,8 +28,6 @@ use Rattle.air.specs.Property.{ranged, held_by}
 use Rattle.kind.specs.declared.Kind.{Kind}
 use Rattle.kind.specs.declared.Kind.TheVariants.{Temperature, Entropy, Pressure, Unknown}
 use Rattle.kind.specs.Kind.{kind_of}
-use Rattle.sheet_search.specs.declared.Lookup.{Lookup}
-use Rattle.sheet_search.specs.declared.Lookup.TheVariants.{Hit, Miss}
 use Rattle.bands.specs.declared.Strip.{Strip}
 use Rattle.bands.specs.Bands.{strip_of}
 use Rattle.bands.specs.declared.Region.{Region}
@@ -92,9 +91,9 @@ module _ (c : Choices) where
   unfolding answer_by
   state kind first second = by_kind (kind_of kind) first second
 
-  found : (f : Lookup) → Holder (answer_at c f)
-  found (Miss n) = refusal n
-  found (Hit x) = state x.kind x.first x.second
+  found : (f : Result Record ℕ) → Holder (answer_at c f)
+  found (Err n) = refusal n
+  found (Ok x) = state x.kind x.first x.second
 
   -- and to a search
   pub searched : (sheet spelling : List ℕ) → Holder (search_by c sheet spelling)

@@ -1,5 +1,6 @@
 -- What the program writes is the listing, whatever its parts are.
 -- Assumes nothing.
+use Rattle.std.specs.Prelude.{Ok, Result}
 use mathlib.Core.List.{List, ◌++◌}
 use mathlib.Core.Path.{◌≡◌, refl, sym, ap, ap₂, ◌∙◌, subst}
 use Prim.Native.Nat.{ℕ, ◌≤◌}
@@ -9,8 +10,6 @@ use lib.ListN.{length, take, drop}
 use lib.Seq.{take_at}
 use Rattle.air.specs.Choices.{chosen}
 use Rattle.air.proofs.Lawful.{lawful}
-use Rattle.octets.specs.declared.Outcome.{Outcome}
-use Rattle.octets.specs.declared.Outcome.TheVariants.{Done}
 use Rattle.octets.specs.Room.{Text, fitting, written, outcome_of}
 use Rattle.name_list.specs.Lines.{lines_of}
 use Rattle.report_refusal.specs.Refusal.{refusal_of}
@@ -33,7 +32,7 @@ module _ (sheet list : List ℕ) where
       ∙ sym (ap (lines_by chosen sheet) p.names ∙ lines_append sheet p.done (lines_of (drop next list)))
 
   -- a room of 71 bytes is always enough for `begin`
-  pub answered : (room : List ℕ) (r : Outcome) → length (refusal_of sheet list) ≤ 71 → 71 ≤ length room → r ≡ outcome_of (fitting (length room) (refusal_of sheet list)) → r ≡ Done (length (refusal_of sheet list))
+  pub answered : (room : List ℕ) (r : Result ℕ ℕ) → length (refusal_of sheet list) ≤ 71 → 71 ≤ length room → r ≡ outcome_of (fitting (length room) (refusal_of sheet list)) → r ≡ Ok (length (refusal_of sheet list))
   answered room r h k e = rw (le-leb (length (refusal_of sheet list)) (length room) (omega arith)) at e
 
   -- `begin` answered r and left `last` in the room
@@ -44,8 +43,8 @@ module _ (sheet list : List ℕ) where
         let d = done_fits t (length room) n e in
         ap (take n) (w ∙ ap (λ (x : Text). written x room) d.2)
         ∙ take_at t (drop (length t) room) n (sym d.0)
-        ∙ one_line sheet list (length room) (Done n) e (λ z. let m : n ≡ 0 = cc in omega arith)
-    whole e (lines ps) = parts_text ps ∙ sym (all_lines sheet list (length room) (Done 0) e refl).1
+        ∙ one_line sheet list (length room) (Ok n) e (λ z. let m : n ≡ 0 = cc in omega arith)
+    whole e (lines ps) = parts_text ps ∙ sym (all_lines sheet list (length room) (Ok 0) e refl).1
 
     -- and document 01 allows it
     pub output_allowed : {r : Outcome} {out : List ℕ} → r ≡ outcome_of (fitting (length room) (refusal_of sheet list)) → Output sheet list last r out → IsListing sheet list out

@@ -1,12 +1,10 @@
 -- The steps of the listing: the next line of the input, the lines that fit a room, and all that is written.
-use Rattle.std.specs.Prelude.{List, [], ◌∷◌, ◌++◌, ◌≡◌, ℕ, ◌+◌, ◌≤◌, ◌<◌, length, take, drop}
+use Rattle.std.specs.Prelude.{List, [], ◌∷◌, ◌++◌, ◌≡◌, ℕ, ◌+◌, ◌≤◌, ◌<◌, length, take, drop, Ok, Result}
 use Rattle.air.specs.Choices.{chosen}
 use Rattle.calculator.specs.Search.{search_by}
 use Rattle.line.specs.declared.Line.{Line}
 use Rattle.line.specs.Line.{line, line_room, line_held}
 use Rattle.octets.specs.Room.{text, written}
-use Rattle.octets.specs.declared.Outcome.{Outcome}
-use Rattle.octets.specs.declared.Outcome.TheVariants.{Done}
 use Rattle.name_list.specs.Lines.{lines_of}
 use Rattle.report.specs.Listing.{lines_by}
 
@@ -38,6 +36,6 @@ pub data Parts (sheet list : List ℕ) : ℕ → List ℕ → Type 0 where
       → Parts sheet list start (take len last ++ rest)
 
 -- what the program writes, by what `begin` answered and left in the room: the line of a refusal, or all parts
-pub data Output (sheet list room : List ℕ) : Outcome → List ℕ → Type 0 where
-  refusal : {n : ℕ} → 0 < n → Output sheet list room (Done n) (take n room)
-  lines : {out : List ℕ} → Parts sheet list 0 out → Output sheet list room (Done 0) out
+pub data Output (sheet list room : List ℕ) : Result ℕ ℕ → List ℕ → Type 0 where
+  refusal : {n : ℕ} → 0 < n → Output sheet list room (Ok n) (take n room)
+  lines : {out : List ℕ} → Parts sheet list 0 out → Output sheet list room (Ok 0) out

@@ -2,17 +2,18 @@
 #![tactic(auto)]
 
 ghost use Rattle.std.specs.Prelude.{◌≡◌, ◌<◌, ◌≤◌, length, drop};
+ghost use Rattle.refusal.specs.Numbered.{numbered};
 ghost use Rattle.air.specs.Choices.{chosen};
 ghost use Rattle.calculator.specs.Search.{search_by};
 ghost use Rattle.line.specs.Line.{line, line_held};
 ghost use Rattle.octets.specs.Room.{fitting, written, outcome_of};
-ghost use Rattle.sheet.specs.Index.{Indexed};
 ghost use Rattle.name_list.specs.Lines.{lines_of};
 ghost use Rattle.report.specs.Listing.{lines_by};
 ghost use Rattle.report.specs.Steps.{NextLine, Part};
 
 use line::Line;
-use octets::Outcome;
+use refusal::Refusal;
+use sheet::Sheet;
 
 // The line of a name of the list, and the place of the next name.
 #[derive(Drop)]
@@ -29,62 +30,30 @@ pub struct Progress {
 }
 
 // The line for a spelled name, in lent room.
-pub fn line(sheet: &[u8], spelled: &[u8], out: &mut [u8]) -> Outcome
-    ensures value { result ≡ outcome_of (fitting (length out.old) (line spelled.now (search_by chosen sheet.now spelled.now))) }
+pub fn line(sheet: &[u8], spelled: &[u8], out: &mut [u8]) -> Result<usize, Refusal>
+    ensures value { numbered result ≡ outcome_of (fitting (length out.old) (line spelled.now (search_by chosen sheet.now spelled.now))) }
     ensures out_after { out.new ≡ written (fitting (length out.old) (line spelled.now (search_by chosen sheet.now spelled.now))) out.old }
 {
     let answer = calculator::search(sheet, spelled);
     line_room::put_line(line::line_of(spelled, answer), out)
 }
 
-// The line for a spelled name under a sheet that is indexed.
-fn line_in(
-    sheet: &[u8],
-    starts: &[u16; 3449],
-    heads: &[u16; 4096],
-    next: &[u16; 3449],
-    spelled: &[u8],
-) -> Line
-    requires { Indexed sheet.now starts.now heads.now next.now }
-    ensures value { result ≡ line_held (line spelled.now (search_by chosen sheet.now spelled.now)) }
-    ensures len_bound { result.len ≤ 192 }
-{
-    line::line_of(
-        spelled,
-        calculator::answer_in(sheet, starts, heads, next, spelled),
-    )
-}
-
-// The line of the name that starts at a place of the list, under a sheet that is indexed.
-pub fn next_line(
-    sheet: &[u8],
-    starts: &[u16; 3449],
-    heads: &[u16; 4096],
-    next: &[u16; 3449],
-    list: &[u8],
-    start: usize,
-) -> Built
-    requires { Indexed sheet.now starts.now heads.now next.now × (start < length list.now) }
+// The line of the name that starts at a place of the list, under an accepted sheet.
+pub fn next_line(sheet: &Sheet, list: &[u8], start: usize) -> Built
+    requires { start < length list.now }
     ensures { NextLine sheet.now list.now start result.next result.line }
 {
     let end = name_list::line_end(list, start);
-    let line = line_in(sheet, starts, heads, next, &list[start..end]);
-    let after = end + 1;
-    Built { line, next: after }
+    let spelled = &list[start..end];
+    Built {
+        line: line::line_of(spelled, calculator::answer_in(sheet, spelled)),
+        next: end + 1,
+    }
 }
 
 // Writes the lines of a list from a place on, while they fit the room. A room of the 192 bytes that a line is built in takes a line at
 // least, so that the parts come to an end, and one that is long enough for all lines takes all.
-pub fn part(
-    sheet: &[u8],
-    starts: &[u16; 3449],
-    heads: &[u16; 4096],
-    next: &[u16; 3449],
-    list: &[u8],
-    start: usize,
-    out: &mut [u8],
-) -> Progress
-    requires { Indexed sheet.now starts.now heads.now next.now }
+pub fn part(sheet: &Sheet, list: &[u8], start: usize, out: &mut [u8]) -> Progress
     ensures part { Part sheet.now list.now out.old out.new start result.next result.len }
     ensures start_lt_next { start < length list.now → 192 ≤ length out.old → start < result.next }
     ensures list_len_bound { length (lines_by chosen sheet.now (lines_of (drop start list.now))) ≤ length out.old → length list.now ≤ result.next }
@@ -92,15 +61,11 @@ pub fn part(
     let mut from = start;
     let mut at = 0;
     while from < list.len() {
-        let built = next_line(sheet, starts, heads, next, list, from);
-        let line = built.line;
-        if out.len() - at < line.len {
-            return Progress {
-                next: from,
-                len: at,
-            };
+        let built = next_line(sheet, list, from);
+        if out.len() - at < built.line.len() {
+            break;
         }
-        at = line_room::append(line, out, at);
+        at = line_room::append(&built.line, out, at);
         from = built.next;
     }
     Progress {

@@ -1,5 +1,6 @@
 -- The cases of a refusal, and of a text in lent room.
 -- Assumes nothing.
+use Rattle.std.specs.Prelude.{Ok}
 use mathlib.Core.Bool.{Bool, true, false, cond}
 use mathlib.Core.List.{List, [], ◌++◌}
 use mathlib.Core.Path.{◌≡◌, refl, ap, ◌∙◌}
@@ -9,7 +10,6 @@ use borrow.Author.Tests.{eq-eqb, ne_eqb, lt-ltb, le-ltb, leb-true}
 use lib.Dec.{eqb, ltb, leb}
 use lib.ListN.{length}
 use Rattle.line.specs.Line.{refusal_rest}
-use Rattle.octets.specs.declared.Outcome.TheVariants.{Done}
 use Rattle.octets.specs.Room.{text, refused, fitting, outcome_of}
 use Rattle.sheet.specs.Sheet.{sheet_of, number_of}
 use Rattle.report_refusal.specs.Refusal.{sheet_word, list_word, refusal_of}
@@ -39,12 +39,12 @@ module _ (sheet list : List ℕ) where
 pub ruleset cases = (refused_sheet, refused_list, not_refused)
 
 -- a text of which n bytes were written fits the room
-pub done_fits : (t : List ℕ) (room n : ℕ) → Done n ≡ outcome_of (fitting room t) → (n ≡ length t) × (length t ≤ room) × (fitting room t ≡ text t)
+pub done_fits : (t : List ℕ) (room n : ℕ) → Ok n ≡ outcome_of (fitting room t) → (n ≡ length t) × (length t ≤ room) × (fitting room t ≡ text t)
 done_fits t room n e = go (leb (length t) room) refl e
   where
-    go : (b : Bool) → leb (length t) room ≡ b → Done n ≡ outcome_of (cond b (text t) (refused 14)) → (n ≡ length t) × (length t ≤ room) × (cond b (text t) (refused 14) ≡ text t)
+    go : (b : Bool) → leb (length t) room ≡ b → Ok n ≡ outcome_of (cond b (text t) (refused 14)) → (n ≡ length t) × (length t ≤ room) × (cond b (text t) (refused 14) ≡ text t)
     go true p e = (cc, leb-true (length t) room p, refl)
     go false p e = let z : ◌≡◌ {A = ℕ} 0 1 = cc in absurd (omega arith)
 
-pub not_empty : (t : List ℕ) (room : ℕ) → 0 < length t → Done 0 ≡ outcome_of (fitting room t) → ⊥
+pub not_empty : (t : List ℕ) (room : ℕ) → 0 < length t → Ok 0 ≡ outcome_of (fitting room t) → ⊥
 not_empty t room h e = omega (arith, (done_fits t room 0 e).0)

@@ -3,34 +3,42 @@
 
 ghost use Rattle.std.specs.Prelude.{◌≡◌, ◌≤◌, length};
 ghost use Rattle.octets.specs.Room.{fitting, written, outcome_of};
-ghost use Rattle.sheet.specs.Index.{Blank, Indexed};
+ghost use Rattle.sheet.specs.Index.{Blank};
 ghost use Rattle.report_refusal.specs.Refusal.{refusal_of};
+ghost use Rattle.report_refusal.specs.Begun.{begun_length, Lines};
 
-use octets::Outcome;
+use distinct::Index;
+use refusal::Refusal;
+use sheet::Sheet;
+
+// How a listing begins: with the line of a refused sheet or list, of so many bytes, which is all of it, or with an accepted sheet, whose lines
+// follow in parts.
+#[derive(Drop)]
+pub enum Begun<'a> {
+    Refused(usize),
+    Lines(Sheet<'a>),
+}
 
 // Begins a listing: indexes the sheet, and writes the line of a refused sheet or list to lent room, for which 71 bytes are enough.
-// Where it writes nothing, the lines follow in parts.
 #[tactic(auto, using(crate::proofs::Cases::cases))]
-pub fn begin(
-    sheet: &[u8],
-    starts: &mut [u16; 3449],
-    heads: &mut [u16; 4096],
-    next: &mut [u16; 3449],
+pub fn begin<'a>(
+    sheet: &'a [u8],
+    room: &'a mut Index,
     list: &[u8],
     out: &mut [u8],
-) -> Outcome
-    requires { Blank starts.old heads.old next.old }
-    ensures value { result ≡ outcome_of (fitting (length out.old) (refusal_of sheet.now list.now)) }
+) -> Result<Begun<'a>, Refusal>
+    requires { Blank room.old }
+    ensures value { begun_length result ≡ outcome_of (fitting (length out.old) (refusal_of sheet.now list.now)) }
     ensures out_after { out.new ≡ written (fitting (length out.old) (refusal_of sheet.now list.now)) out.old }
     ensures list_len_bound { length (refusal_of sheet.now list.now) ≤ 71 }
-    ensures indexed { result ≡ Outcome.Done 0 → Indexed sheet.now starts.new heads.new next.new }
+    ensures lines { Lines sheet.now result }
 {
-    let number = sheet::index(sheet, starts, heads, next);
-    if number != 0 {
-        return line_room::put_refused(b"sheet", number, out);
-    }
+    let sheet = match sheet::index(sheet, room) {
+        Ok(sheet) => sheet,
+        Err(refusal) => return Ok(Begun::Refused(line_room::put_refused(b"sheet", refusal, out)?)),
+    };
     if 65536 < list.len() {
-        return line_room::put_refused(b"list", 15, out);
+        return Ok(Begun::Refused(line_room::put_refused(b"list", Refusal::ListTooLong, out)?));
     }
-    Outcome::Done(0)
+    Ok(Begun::Lines(sheet))
 }

@@ -1,4 +1,5 @@
 -- With room for its lines a walk gives those of all records that it counted, in order, and then nothing.
+use Rattle.std.specs.Prelude.{Ok}
 use mathlib.Core.List.{List, [], ◌∷◌, ◌++◌, append_assoc, Memᴰ}
 use mathlib.Core.Path.{◌≡◌, refl, sym, ap, ap₂, ◌∙◌}
 use Prim.Native.Nat.{ℕ, suc, ◌+◌, ◌≤◌}
@@ -9,14 +10,13 @@ use Rattle.octets.proofs.Told.{fits}
 use Rattle.air.specs.Choices.{Choices}
 use Rattle.sheet_record.specs.declared.Record.{Record}
 use Rattle.sheet.specs.Sheet.{Sheet, records, sheet_of, number_of, Accepted}
-use Rattle.sheet_search.specs.declared.Lookup.TheVariants.{Hit}
 use Rattle.sheet_walk.specs.Records.{record_in, record_by}
 use Rattle.walk.specs.Walk.{begun_by, line_of_record, stepped, walk_after}
 use Rattle.walk.specs.Laws.{printed, lines_of, steps, WalkCovers}
 use Rattle.walk.specs.declared.Walk.{Walk}
 use Rattle.walk.proofs.Steps.{step_over, step_at, record_some}
 
-record_behind : (done : List Record) (r : Record) (left : List Record) → record_in (done ++ (r ∷ left)) (length done) ≡ Hit r
+record_behind : (done : List Record) (r : Record) (left : List Record) → record_in (done ++ (r ∷ left)) (length done) ≡ Ok r
 unfolding record_in
 record_behind [] r left = refl
 record_behind (q ∷ done) r left = record_behind done r left
@@ -38,10 +38,10 @@ module _ (c : Choices) (s : List ℕ) (rs : List Record) (room : ℕ) (reads : s
       ap (λ (x : Text). x ∷ []) (step_over c s w room accepted (omega (arith, ap length split, length-append done [])))
   covers (r ∷ left) done w split g k fit =
       let line : List ℕ = line_of_record c s r in
-      let here : Hit r ≡ record_by (sheet_of s) w.given =
+      let here : Ok r ≡ record_by (sheet_of s) w.given =
       sym (ap (λ (x : Sheet). record_by x w.given) reads ∙ ap₂ record_in split g ∙ record_behind done r left) in
       let now : stepped c s w room ≡ text line =
-      step_at c s w room accepted (omega (arith, ap length split, length-append done (r ∷ left))) (Hit r) here ∙ fits room line (fit r (Memᴰ.head refl)) in
+      step_at c s w room accepted (omega (arith, ap length split, length-append done (r ∷ left))) (Ok r) here ∙ fits room line (fit r (Memᴰ.head refl)) in
       let then : Walk = record { given = w.given + 1; count = w.count } in
       let after : walk_after w (stepped c s w room) ≡ then = ap (walk_after w) now ∙ after_line w line (record_some c s r) in
       ap₂ (λ (x : Text) (v : Walk). x ∷ printed c s v (steps (suc (length left)) room)) now after

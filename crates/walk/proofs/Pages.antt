@@ -1,4 +1,5 @@
 -- What a walk gives follows from the sheet's page, which leaves the places of records aside.
+use Rattle.std.specs.Prelude.{Ok, Err, Result}
 use mathlib.Core.Bool.{cond}
 use mathlib.Core.List.{List, [], ◌∷◌}
 use mathlib.Core.Path.{◌≡◌, refl, sym, ap, ap₂, ◌∙◌}
@@ -12,8 +13,6 @@ use Rattle.state.specs.State.{answer_by}
 use Rattle.sheet_record.specs.declared.Record.{Record}
 use Rattle.sheet.specs.Sheet.{Sheet, records, sheet_of}
 use Rattle.sheet.proofs.Entries.{said}
-use Rattle.sheet_search.specs.declared.Lookup.{Lookup}
-use Rattle.sheet_search.specs.declared.Lookup.TheVariants.{Hit, Miss}
 use Rattle.sheet_search.proofs.Pages.{Page, without, with, page_of, Reply, missed, found, reply_of}
 use Rattle.sheet_walk.specs.Records.{record_in, record_by}
 use Rattle.sheet_walk.proofs.Pages.{same_record}
@@ -40,9 +39,9 @@ abbrev line_reply : Choices → Reply → List ℕ
 line_reply c (missed k) = []
 line_reply c (found e) = line_of (spelled e.name) (answer_by c e.kind e.first e.second)
 
-line_reply_lem : (c : Choices) (s : List ℕ) (l : Lookup) → line_at c s l ≡ line_reply c (reply_of s l)
-line_reply_lem c s (Miss k) = refl
-line_reply_lem c s (Hit r) = refl
+line_reply_lem : (c : Choices) (s : List ℕ) (l : Result Record ℕ) → line_at c s l ≡ line_reply c (reply_of s l)
+line_reply_lem c s (Err k) = refl
+line_reply_lem c s (Ok r) = refl
 
 abbrev step_on : Choices → Page → Reply → Walk → ℕ → Text
 step_on c (without k) reply w room = refused k

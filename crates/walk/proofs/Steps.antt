@@ -1,4 +1,5 @@
 -- What a walk's beginning and a step give, case by case.
+use Rattle.std.specs.Prelude.{Result}
 use mathlib.Core.Bool.{Bool, true, false, cond}
 use mathlib.Core.List.{List, [], ◌∷◌}
 use mathlib.Core.Option.{Option, none, some}
@@ -11,7 +12,6 @@ use lib.IntN.{ℤ}
 use lib.ListN.{length}
 use Rattle.octets.specs.Bytes.{number_at}
 use Rattle.octets.specs.Room.{Text, refused, text, fitting, written, outcome_of}
-use Rattle.octets.specs.declared.Outcome.{Outcome}
 use Rattle.octets.proofs.Told.{fits}
 use Rattle.name.specs.Spelling.{spelled}
 use Rattle.air.specs.Choices.{Choices}
@@ -23,7 +23,6 @@ use Rattle.sheet_record.specs.Front.{name_in}
 use Rattle.sheet_record.specs.declared.Record.{Record}
 use Rattle.sheet.specs.Sheet.{Sheet, records, sheet_of, number_of, records_of, Accepted}
 use Rattle.sheet.proofs.Counted.{accepted_records, accepted_count}
-use Rattle.sheet_search.specs.declared.Lookup.{Lookup}
 use Rattle.sheet_search.proofs.Locate.{Fit}
 use Rattle.sheet_walk.specs.Records.{record_in, record_by, record_of}
 use Rattle.line.specs.Line.{line_of, rest_by, value_rest, refusal_rest}
@@ -70,11 +69,11 @@ module _ (c : Choices) (s : List ℕ) (w : Walk) (room : ℕ) where
     step_over h = step_is ∙ ap (λ (b : Bool). fitting room (cond b (line_at c s (record_in (records_of (sheet_of s)) w.given)) [])) (le-ltb w.given w.count h) ∙ fits room [] (omega arith)
 
     -- or else by the record that comes next
-    pub step_at : w.given < w.count → (f : Lookup) → f ≡ record_of s w.given → stepped c s w room ≡ fitting room (line_at c s f)
+    pub step_at : w.given < w.count → (f : Result Record ℕ) → f ≡ record_of s w.given → stepped c s w room ≡ fitting room (line_at c s f)
     step_at h f e =
         step_is
         ∙ ap (λ (b : Bool). fitting room (cond b (line_at c s (record_in (records_of (sheet_of s)) w.given)) [])) (lt-ltb w.given w.count h)
-        ∙ ap (λ (g : Lookup). fitting room (line_at c s g)) (sym (e ∙ ap (λ (t : Sheet). record_by t w.given) (accepted_records s a)))
+        ∙ ap (λ (g : Result Record ℕ). fitting room (line_at c s g)) (sym (e ∙ ap (λ (t : Sheet). record_by t w.given) (accepted_records s a)))
 
 -- what is told of a step, and the room afterwards
 abbrev pub StepTells : Walk → Text → Step → List ℕ → List ℕ → Type 0
@@ -111,7 +110,7 @@ advances w room (b ∷ t) z = go (leb (length (b ∷ t)) room)
     go false = refl
 
 -- a step that put the line of a record, or had no room for it
-module _ (c : Choices) (s : List ℕ) (w : Walk) (r : Record) (o : Outcome) (x : Step) (room last : List ℕ) where
+module _ (c : Choices) (s : List ℕ) (w : Walk) (r : Record) (o : Result ℕ ℕ) (x : Step) (room last : List ℕ) where
   pub tells_line :
       stepped c s w (length room) ≡ fitting (length room) (line_of_record c s r)
       → o ≡ outcome_of (fitting (length room) (line_of_record c s r))

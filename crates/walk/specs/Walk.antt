@@ -1,5 +1,5 @@
 -- Request 7: a walk over the records of a sheet, a line a step.
-use Rattle.std.specs.Prelude.{cond, List, [], ◌∷◌, ℕ, ◌+◌, ltb, length}
+use Rattle.std.specs.Prelude.{cond, List, [], ◌∷◌, ℕ, ◌+◌, ltb, length, Ok, Err, Result}
 use Rattle.octets.specs.Room.{Text, refused, text, fitting}
 use Rattle.name.specs.Spelling.{spelled}
 use Rattle.air.specs.Choices.{Choices}
@@ -7,8 +7,6 @@ use Rattle.state.specs.State.{answer_by}
 use Rattle.sheet_record.specs.declared.Record.{Record}
 use Rattle.sheet_record.specs.Front.{name_in}
 use Rattle.sheet.specs.Sheet.{Sheet, records, sheet_of}
-use Rattle.sheet_search.specs.declared.Lookup.{Lookup}
-use Rattle.sheet_search.specs.declared.Lookup.TheVariants.{Hit, Miss}
 use Rattle.sheet_walk.specs.Records.{record_in}
 use Rattle.line.specs.Line.{line_of}
 use Rattle.walk.specs.declared.Walk.{Walk}
@@ -25,9 +23,9 @@ abbrev pub line_of_record : Choices → List ℕ → Record → List ℕ
 line_of_record c s r = line_of (spelled (name_in s r)) (answer_by c r.kind r.first r.second)
 
 -- the same of the record that has a number; nothing where there is none
-abbrev pub line_at : Choices → List ℕ → Lookup → List ℕ
-line_at c s (Miss k) = []
-line_at c s (Hit r) = line_of_record c s r
+abbrev pub line_at : Choices → List ℕ → Result Record ℕ → List ℕ
+line_at c s (Err k) = []
+line_at c s (Ok r) = line_of_record c s r
 
 -- "A walk step gives its next record's listing line, or nothing after the walk's last or the sheet's"
 abbrev pub next_line : Choices → List ℕ → List Record → Walk → List ℕ

@@ -1,16 +1,17 @@
 // A walk over the records of a sheet, to which states may be added meanwhile.
 #![tactic(auto)]
 
-ghost use Rattle.std.specs.Prelude.{◌≡◌, ◌<◌, length};
+ghost use Rattle.std.specs.Prelude.{◌≡◌, ◌<◌, length, IfOk};
+ghost use Rattle.refusal.specs.Numbered.{numbered};
 ghost use Rattle.octets.specs.Room.{fitting, written, outcome_of};
 ghost use Rattle.air.specs.Choices.{chosen};
 ghost use Rattle.sheet.specs.Sheet.{sheet_of};
-ghost use Rattle.walk.specs.Parts.{Named, staying, advanced};
+ghost use Rattle.walk.specs.Parts.{Named, advanced};
 ghost use Rattle.walk.specs.Walk.{begun_by, line_of_record, stepped, step_of};
 
-use octets::Outcome;
+use distinct::Index;
+use refusal::Refusal;
 use sheet_record::Record;
-use sheet_search::Lookup;
 
 // How many records a walk has given, and how many the sheet had when it began.
 #[repr(C)]
@@ -41,51 +42,66 @@ pub struct Step {
 pub fn begin(sheet: &[u8]) -> Begun
     ensures { result ≡ begun_by (sheet_of sheet.now) }
 {
-    let number = sheet::check(sheet);
-    if number != 0 {
-        return Begun {
-            number,
+    match sheet::check(sheet) {
+        Err(refusal) => Begun {
+            number: refusal.number(),
             walk: Walk { given: 0, count: 0 },
-        };
-    }
-    let count = sheet_record::number(sheet, 5, 2) as u32;
-    Begun {
-        number: 0,
-        walk: Walk { given: 0, count },
+        },
+        Ok(()) => Begun {
+            number: 0,
+            walk: Walk {
+                given: 0,
+                count: sheet_record::number(sheet, 5, 2) as u32,
+            },
+        },
     }
 }
 
 // The listing line of a record of a sheet, in lent room.
-fn put_record(sheet: &[u8], r: Record, out: &mut [u8]) -> Outcome
+fn put_record(sheet: &[u8], r: Record, out: &mut [u8]) -> Result<usize, Refusal>
     requires { Named sheet.now r }
-    ensures value { result ≡ outcome_of (fitting (length out.old) (line_of_record chosen sheet.now r)) }
+    ensures value { numbered result ≡ outcome_of (fitting (length out.old) (line_of_record chosen sheet.now r)) }
     ensures out_after { out.new ≡ written (fitting (length out.old) (line_of_record chosen sheet.now r)) out.old }
 {
-    let start = r.start;
-    let end = start + r.len;
+    let name = &sheet[r.start..r.start + r.len];
     let answer = evaluate::evaluate(r.kind, r.first, r.second);
-    line_room::put_line(line::line_of_name(&sheet[start..end], answer), out)
+    line_room::put_line(&line::line_of_name(name, answer), out)
 }
 
-// A step that gives no line: a refusal's number, or 0 where no record is left.
-fn stay(walk: Walk, number: u32) -> Step
-    ensures { result ≡ staying walk number }
+// The next record's listing line, in lent room; nothing, of length 0, after the walk's last record or the sheet's.
+fn put_next(sheet: &[u8], walk: Walk, out: &mut [u8]) -> Result<usize, Refusal>
+    ensures value { numbered result ≡ outcome_of (stepped chosen sheet.now walk (length out.old)) }
+    ensures out_after { out.new ≡ written (stepped chosen sheet.now walk (length out.old)) out.old }
+    ensures advances { IfOk result (λ n. 0 < n → walk.given < walk.count) }
 {
-    Step {
-        number,
-        length: 0,
-        walk,
+    let mut room = Index::blank();
+    let indexed = sheet::index(sheet, &mut room)?;
+    if walk.count <= walk.given {
+        return Ok(0);
+    }
+    match sheet_walk::record_in(&indexed, walk.given as usize) {
+        Err(_) => Ok(0),
+        Ok(record) => put_record(sheet, record, out),
     }
 }
 
-// The step that put a line, or had no room for it.
-fn advance(walk: Walk, outcome: Outcome) -> Step
-    requires { walk.given < walk.count }
-    ensures { result ≡ advanced walk outcome }
+// The step by what became of the line: the walk goes on where one was put.
+fn step(walk: Walk, put: Result<usize, Refusal>) -> Step
+    requires { IfOk put (λ n. 0 < n → walk.given < walk.count) }
+    ensures { result ≡ advanced walk (numbered put) }
 {
-    match outcome {
-        Outcome::Refused(number) => stay(walk, number),
-        Outcome::Done(length) => Step {
+    match put {
+        Err(refusal) => Step {
+            number: refusal.number(),
+            length: 0,
+            walk,
+        },
+        Ok(0) => Step {
+            number: 0,
+            length: 0,
+            walk,
+        },
+        Ok(length) => Step {
             number: 0,
             length,
             walk: Walk {
@@ -101,18 +117,5 @@ pub fn take_step(sheet: &[u8], walk: Walk, out: &mut [u8]) -> Step
     ensures value { result ≡ step_of walk (stepped chosen sheet.now walk (length out.old)) }
     ensures out_after { out.new ≡ written (stepped chosen sheet.now walk (length out.old)) out.old }
 {
-    let mut starts = distinct::no_links();
-    let mut heads = distinct::no_heads();
-    let mut next = distinct::no_links();
-    let number = sheet::index(sheet, &mut starts, &mut heads, &mut next);
-    if number != 0 {
-        return stay(walk, number);
-    }
-    if walk.count <= walk.given {
-        return stay(walk, 0);
-    }
-    match sheet_walk::record_in(sheet, &starts, &heads, &next, walk.given as usize) {
-        Lookup::Miss(_) => stay(walk, 0),
-        Lookup::Hit(r) => advance(walk, put_record(sheet, r, out)),
-    }
+    step(walk, put_next(sheet, walk, out))
 }

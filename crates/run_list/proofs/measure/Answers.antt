@@ -1,8 +1,8 @@
 -- `run_list::measure` meets its contract. Assumes nothing.
+use Rattle.std.specs.Prelude.{Ok}
 use mathlib.Core.Path.{◌≡◌, ap}
 use native.Mathlib.Omega.{arith}
 use borrow.Author.Tests.{le-leb, lt-leb}
-use Rattle.octets.specs.declared.Outcome.TheVariants.{Done}
 use Rattle.report.proofs.Output.{left, left_next, left_none}
 use Rattle.run_list.proofs.measure.Goals as goal
 
@@ -30,4 +30,4 @@ returns c =
     let l = c.loop-from in
     let s = c.args in
     let e : l.n ≡ left s.sheet.now s.list.now 0 = omega (arith, l.invariant.1, left_none s.sheet.now s.list.now l.from c.loop-from-test.false) in
-    rw (le-leb (left s.sheet.now s.list.now 0) s.room (omega arith)) (ap Done e)
+    rw (le-leb (left s.sheet.now s.list.now 0) s.room (omega arith)) (ap Ok e)

@@ -1,4 +1,5 @@
 -- `walk::take_step` meets its contract.
+use Rattle.std.specs.Prelude.{Ok, Err}
 use mathlib.Core.List.{[]}
 use mathlib.Core.Path.{sym, ◌∙◌}
 use native.Mathlib.Omega.{arith}
@@ -6,7 +7,6 @@ use lib.ListN.{length}
 use Rattle.octets.proofs.Told.{fits}
 use Rattle.air.specs.Choices.{chosen}
 use Rattle.sheet.specs.Index.{Indexed}
-use Rattle.sheet_search.specs.declared.Lookup.TheVariants.{Hit, Miss}
 use Rattle.sheet_walk.proofs.Pages.{numbered_fit}
 use Rattle.walk.proofs.Steps.{fit_named, step_own, step_over, step_at, tells_stay, tells_end, tells_line}
 use Rattle.walk.proofs.take_step.Goals as goal
@@ -33,19 +33,19 @@ record_in-requires c = indexed (goal.at.record_in-requires c).Else-number-ne0
 
 pub put_record-requires : goal.put_record-requires
 put_record-requires c =
-    fit_named _ _ (numbered_fit _ _ (sym c.record_in.ensures ∙ c.in-Hit.is))
+    fit_named _ _ (numbered_fit _ _ (sym c.record_in.ensures ∙ c.in-Ok.is))
 
-pub returns-in-Miss : goal.returns-in-Miss
-returns-in-Miss c =
+pub returns-in-Err : goal.returns-in-Err
+returns-in-Err c =
     let a = c.args in
-    let both = tells_end a.walk _ _ a.out.now c.stay-in-Miss.ensures
-    (step_at chosen a.sheet.now a.walk _ (indexed (goal.at.returns-in-Miss c).Else-number-ne0).accepted (omega (arith, c.if-walk.false)) (Miss c.in-Miss.field-0) (sym c.in-Miss.is ∙ c.record_in.ensures) ∙ fits (length a.out.now) [] (omega arith)) in
+    let both = tells_end a.walk _ _ a.out.now c.stay-in-Err.ensures
+    (step_at chosen a.sheet.now a.walk _ (indexed (goal.at.returns-in-Err c).Else-number-ne0).accepted (omega (arith, c.if-walk.false)) (Err c.in-Err.field-0) (sym c.in-Err.is ∙ c.record_in.ensures) ∙ fits (length a.out.now) [] (omega arith)) in
     record { value = both.0; out_after = both.1 }
 
-pub returns-in-Hit : goal.returns-in-Hit
-returns-in-Hit c =
+pub returns-in-Ok : goal.returns-in-Ok
+returns-in-Ok c =
     let a = c.args in
-    let r = c.in-Hit.r in
-    let s = step_at chosen a.sheet.now a.walk (length a.out.now) (indexed (goal.at.returns-in-Hit c).Else-number-ne0).accepted (omega (arith, c.if-walk.false)) (Hit r) (sym c.in-Hit.is ∙ c.record_in.ensures) in
+    let r = c.in-Ok.r in
+    let s = step_at chosen a.sheet.now a.walk (length a.out.now) (indexed (goal.at.returns-in-Ok c).Else-number-ne0).accepted (omega (arith, c.if-walk.false)) (Ok r) (sym c.in-Ok.is ∙ c.record_in.ensures) in
     let both = tells_line chosen a.sheet.now a.walk r _ _ a.out.now _ s c.put_record.ensures.value c.put_record.ensures.out_after c.advance.ensures in
     record { value = both.0; out_after = both.1 }
