@@ -23,6 +23,7 @@ ghost use Rattle.c_laws.specs.Texts.{line_in, listing_in};
 use air::Answer;
 use flat::CAnswer;
 use flat_parts::{CMark, CPart, CRecord, CText};
+use refusal::Refusal;
 use walk::{Begun, Step, Walk};
 
 // The sheet's number: 0, 1 to 6, 16.
@@ -30,7 +31,7 @@ use walk::{Begun, Step, Walk};
 pub extern "C" fn eas_check(sheet: &[u8]) -> u32
     ensures { result ≡ number_of (sheet_of sheet.now) }
 {
-    sheet::check(sheet)
+    flat_parts::flatten_check(sheet::check(sheet))
 }
 
 // The record of a spelled name, and where its name stands.
@@ -75,10 +76,10 @@ pub extern "C" fn eas_evaluate(kind: u32, first: u64, second: u64) -> CAnswer
     ensures value { result ≡ flat (answer_by chosen kind first second) }
     ensures flat_answer { IsFlatAnswer kind first second result }
 {
-    if 255 < kind {
-        return flat::flatten(Answer::Refused(6));
-    }
-    flat::flatten(evaluate::evaluate(kind as u8, first, second))
+    flat::flatten(match u8::try_from(kind) {
+        Ok(byte) => evaluate::evaluate(byte, first, second),
+        Err(_) => Answer::Refused(Refusal::UnknownKind),
+    })
 }
 
 // The plot mark of a spelled name. That both doubles are exact is `PlotExact` (c_laws/specs/Plot).
