@@ -50,9 +50,14 @@ def shaped():
         if len(arms) == 2 and (len(bare) == 1 or len(numbered) == 1) or any(arm == "Unknown," for arm in bare):
             found.append(f"{place}: {lines[0].strip()}")
     for place, lines in blocks("struct"):
-        found += [f"{place}: {line.strip()}" for line in lines if re.match(r"\s+(pub )?(triple|failed|outcome|number|blank|bits|last|carries)\b.*:", line)]
-    found += matching(r"\b(number|wrong|refusal)?: u32\b.*(->|[,)])|-> u32\b|^\) -> u32") + matching(r"\b(Refused|Miss|Beyond|Blank|no_name|stay)\((\w+, )?\d+\)|judged\(b'\w', \d+|put_refused\(b\"\w+\", \w+|^ *return \d+;")
-    return found
+        found += [f"{place}: {line.strip()}" for line in lines if re.match(r"\s+(pub )?(triple|failed|outcome|number|blank|last)\b.*:", line)]
+    for place, lines in blocks("fn"):
+        head = " ".join(lines[:lines.index("{")] if "{" in lines else lines[:1])
+        if re.search(r"-> u32\b", head) or re.search(r"\b(number|wrong|kind): (u32|u8)\b", head):
+            found.append(f"{place}: {lines[0].strip()}")
+        if re.search(r"-> u32\b", head):
+            found += [f"{place}: {line.strip()}" for line in lines if re.match(r" +(return )?\d+;?$", line)]
+    return found + matching(r"\b(Refused|Miss|Beyond|Blank|no_name|stay)\((\w+, )?\d+\)|judged\(b'\w', \d+|put_refused\(b\"\w+\", \w+")
 
 
 def shape(lines):
