@@ -3,7 +3,7 @@
 
 ghost use Rattle.std.specs.Prelude.{◌≡◌, ◌≤◌, length};
 ghost use Rattle.octets.specs.Room.{fitting, written, outcome_of};
-ghost use Rattle.sheet.specs.Index.{Blank};
+ghost use Rattle.distinct.specs.Chain.{Blank};
 ghost use Rattle.report_refusal.specs.Refusal.{refusal_of};
 ghost use Rattle.report_refusal.specs.Begun.{begun_length, Lines};
 
