@@ -8,6 +8,7 @@ use native.Mathlib.Omega.{arith}
 use borrow.Author.Tests.{ltb-true, ltb-false}
 use lib.Dec.{ltb}
 use lib.ListN.{length}
+use Rattle.sheet_search.specs.Find.{Lookup}
 use Rattle.octets.specs.Room.{fitting, written, outcome_of}
 use Rattle.octets.proofs.Told.{fits}
 use Rattle.name.specs.Spelling.{spelled}
@@ -93,7 +94,7 @@ step_allowed : (s : List ℕ) (w : Walk) (room : ℕ) → IsStep s w room (stepp
 unfolding stepped
 step_allowed s w room = go (sheet_of s) refl
   where
-    next : (rs : List Record) → sheet_of s ≡ records rs → w.given < w.count → (f : Result Record ℕ) → record_in rs w.given ≡ f → IsStep s w room (fitting room (line_at chosen s f))
+    next : (rs : List Record) → sheet_of s ≡ records rs → w.given < w.count → (f : Lookup) → record_in rs w.given ≡ f → IsStep s w room (fitting room (line_at chosen s f))
     next rs p l (Err k) e = subst (IsStep s w room) (sym (fits room [] (omega arith))) (IsStep.past p (none_left rs w.given e))
     next rs p l (Ok r) e =
         let h = state chosen r.kind r.first r.second in

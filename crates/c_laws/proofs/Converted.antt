@@ -9,7 +9,7 @@ use Rattle.octets.specs.Room.{Text, refused, text}
 use Rattle.name.specs.Name.{name_of}
 use Rattle.sheet_record.specs.declared.Record.{Record}
 use Rattle.sheet.specs.Sheet.{records, sheet_of, records_of}
-use Rattle.sheet_search.specs.Find.{find_in}
+use Rattle.sheet_search.specs.Find.{Lookup, find_in}
 use Rattle.sheet_search.proofs.Pages.{reply_of}
 use Rattle.sheet_search.proofs.Searching.{Finding, hit, finding}
 use Rattle.sheet_remark.specs.Remark.{remark_of}
@@ -30,7 +30,7 @@ use Rattle.c_laws.proofs.Rooms.{in_room}
 
 -- what a search finds in a sheet without a remark has none
 module _ (s : List ℕ) (rs : List Record) (e : sheet_of s ≡ records rs) (n : NoRemark s rs) where
-  found_bare : (l : Result Record ℕ) → (name : List ℕ) → Finding s rs name l → (flat_remark (remark_of s l)).length ≡ 0
+  found_bare : (l : Lookup) → (name : List ℕ) → Finding s rs name l → (flat_remark (remark_of s l)).length ≡ 0
   unfolding flat_remark
   found_bare (Ok r) name (hit m k) = n r m
   found_bare (Err k) name f = refl
@@ -45,7 +45,7 @@ module _ (s : List ℕ) (rs : List Record) (e : sheet_of s ≡ records rs) (n : 
   located_bare spelling = rw e (named_bare (name_of spelling))
 
 -- the number of a remark is that of its search
-remark_number : (s t : List ℕ) (l k : Result Record ℕ) → reply_of s l ≡ reply_of t k → (flat_remark (remark_of s l)).number ≡ (flat_remark (remark_of t k)).number
+remark_number : (s t : List ℕ) (l k : Lookup) → reply_of s l ≡ reply_of t k → (flat_remark (remark_of s l)).number ≡ (flat_remark (remark_of t k)).number
 unfolding flat_remark
 remark_number s t (Err m) (Err n) e = cc
 remark_number s t (Err m) (Ok q) e = let f : ◌≡◌ {A = ℕ} 0 1 = cc in absurd (omega arith)

@@ -9,6 +9,7 @@ use native.Mathlib.Nat.{le_trans}
 use native.Mathlib.Omega.{arith}
 use lib.Dec.{ltb}
 use lib.ListN.{length}
+use Rattle.sheet_search.specs.Find.{Lookup}
 use Rattle.octets.specs.Room.{Text, text, written}
 use Rattle.octets.proofs.Told.{fits}
 use Rattle.name.specs.Spelling.{spelled}
@@ -41,7 +42,7 @@ module _ (s : List ℕ) (rs : List Record) (reads : sheet_of s ≡ records rs) w
   next_short : (w : Walk) → length (next_line chosen s rs w) ≤ line_room
   next_short w = go (ltb w.given w.count) (record_in rs w.given) (ap (λ (x : Sheet). record_by x w.given) reads)
     where
-      go : (b : Bool) (f : Result Record ℕ) → record_by (sheet_of s) w.given ≡ f → length (cond b (line_at chosen s f) []) ≤ line_room
+      go : (b : Bool) (f : Lookup) → record_by (sheet_of s) w.given ≡ f → length (cond b (line_at chosen s f) []) ≤ line_room
       go true (Ok r) e = fit_short s r (numbered_fit s w.given e)
       go true (Err k) e = omega arith
       go false f e = omega arith

@@ -19,7 +19,7 @@ use Rattle.sheet_record.specs.Front.{name_in}
 use Rattle.sheet.specs.Sheet.{Sheet, records, sheet_of, number_of, records_of}
 use Rattle.sheet.proofs.Counted.{accepted_records}
 use Rattle.sheet_version.proofs.Version.{read_of}
-use Rattle.sheet_search.specs.Find.{find_in}
+use Rattle.sheet_search.specs.Find.{Lookup, find_in}
 use Rattle.sheet_search.proofs.Searching.{Finding, hit, finding}
 use Rattle.sheet_remark.specs.Remark.{remark_in, remark_of, remark_bytes}
 use Rattle.sheet_remark.specs.declared.Part.{Part}
@@ -45,17 +45,17 @@ module _ (s t name : List ℕ) (kind first second : ℕ) (g : Grown s t name kin
   unfolding find_in
   find_kept [] k q e = rw e
   find_kept (r ∷ rs) k q e =
-      ap₂ (λ (x : List ℕ) (l : Result Record ℕ). cond (same x q) (Ok r) l) (k r (Memᴰ.head refl)) (find_kept rs (λ p m. k p (Memᴰ.tail m)) q e)
+      ap₂ (λ (x : List ℕ) (l : Lookup). cond (same x q) (Ok r) l) (k r (Memᴰ.head refl)) (find_kept rs (λ p m. k p (Memᴰ.tail m)) q e)
 
   -- and so is its remark
-  remark_kept : (l : Result Record ℕ) (q : List ℕ) → Finding s g.old q l
+  remark_kept : (l : Lookup) (q : List ℕ) → Finding s g.old q l
       → (remark_of t l ≡ remark_of s l) × (remark_bytes t (remark_of t l) ≡ remark_bytes s (remark_of s l))
   remark_kept (Err n) q f = (refl, refl)
   remark_kept (Ok r) q (hit m e) =
       let k = g.kept r m in
       (ap Ok k.remark, ap (λ (p : Part). part t p.start p.len) k.remark ∙ k.bytes)
 
-  Alike : Result Record ℕ → Result Record ℕ → Type 0
+  Alike : Lookup → Lookup → Type 0
   Alike a b = (a ≡ b) × (remark_of t a ≡ remark_of s b) × (remark_bytes t (remark_of t a) ≡ remark_bytes s (remark_of s b))
 
   other_name : (q : List ℕ) → (q ≡ name → ⊥) → Alike (find_in t (g.old ++ (g.new ∷ [])) q) (find_in s g.old q)
@@ -63,7 +63,7 @@ module _ (s t name : List ℕ) (kind first second : ℕ) (g : Grown s t name kin
   other_name q z =
       let e = find_kept g.old (λ r m. (g.kept r m).name) q (apart (same (name_in t g.new) q) refl) in
       let k = remark_kept (find_in s g.old q) q (finding s g.old q) in
-      (e, ap (remark_of t) e ∙ k.0, ap (λ (l : Result Record ℕ). remark_bytes t (remark_of t l)) e ∙ k.1)
+      (e, ap (remark_of t) e ∙ k.0, ap (λ (l : Lookup). remark_bytes t (remark_of t l)) e ∙ k.1)
     where
       apart : (b : Bool) → same (name_in t g.new) q ≡ b → same (name_in t g.new) q ≡ false
       apart true p = absurd (z (sym (same_equal (name_in t g.new) q p) ∙ g.named))
@@ -99,12 +99,12 @@ module _ (s t name : List ℕ) (kind first second : ℕ) (g : Grown s t name kin
       let l : locate t other ≡ Ok g.new =
       locates t all g.new other (read_of 2 t g.read_new) (Memᴰ.append_right g.old (Memᴰ.head refl)) (e ∙ ap text (sym g.named)) in
       record {
-        found = ap (λ (x : Result Record ℕ). (flat_found x).number) l;
-        kind_is = ap (λ (x : Result Record ℕ). (flat_found x).kind) l ∙ g.kind_is;
-        first_is = ap (λ (x : Result Record ℕ). (flat_found x).first) l ∙ g.first_is f64;
-        second_is = ap (λ (x : Result Record ℕ). (flat_found x).second) l ∙ g.second_is s64;
-        name_is = ap (λ (x : Result Record ℕ). part t (flat_found x).start (flat_found x).length) l ∙ g.named;
-        remark = ap (λ (x : Result Record ℕ). remark_bytes t (remark_of t x)) l ∙ ap (part t (remark_in t g.new).start) g.empty;
+        found = ap (λ (x : Lookup). (flat_found x).number) l;
+        kind_is = ap (λ (x : Lookup). (flat_found x).kind) l ∙ g.kind_is;
+        first_is = ap (λ (x : Lookup). (flat_found x).first) l ∙ g.first_is f64;
+        second_is = ap (λ (x : Lookup). (flat_found x).second) l ∙ g.second_is s64;
+        name_is = ap (λ (x : Lookup). part t (flat_found x).start (flat_found x).length) l ∙ g.named;
+        remark = ap (λ (x : Lookup). remark_bytes t (remark_of t x)) l ∙ ap (part t (remark_in t g.new).start) g.empty;
         search = λ c.
             ap (answer_at c) l
             ∙ ap (λ (k : ℕ). answer_by c k g.new.first g.new.second) g.kind_is
@@ -163,4 +163,4 @@ pub walk_line : WalkLine
 unfolding line search_by
 walk_line c s rs r spelling e m n =
     ap (λ (x : Text). line_of (shown_name x) (answer_by c r.kind r.first r.second)) (sym n)
-    ∙ sym (ap (λ (l : Result Record ℕ). line_of (shown_name (name_of spelling)) (answer_at c l)) (locates s rs r spelling e m n))
+    ∙ sym (ap (λ (l : Lookup). line_of (shown_name (name_of spelling)) (answer_at c l)) (locates s rs r spelling e m n))

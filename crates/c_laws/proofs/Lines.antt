@@ -30,7 +30,7 @@ use Rattle.sheet_record.specs.Front.{Fields, Front, bad, front, front_of, fields
 use Rattle.sheet_record.specs.declared.Record.{Record}
 use Rattle.sheet_head.specs.Head.{is_marked}
 use Rattle.sheet.specs.Sheet.{Sheet, refused, records, seen, walk, with_layout, sheet_by, sheet_of, number_of}
-use Rattle.sheet_search.specs.Find.{find_in}
+use Rattle.sheet_search.specs.Find.{Lookup, find_in}
 use Rattle.sheet_search.proofs.Locate.{Fit, finds}
 use Rattle.sheet_search.proofs.Searching.{Finding, miss, finding}
 use Rattle.calculator.specs.Search.{locate_name, locate_in, locate, answer_at, search_by}
@@ -76,7 +76,7 @@ record_short s rs e r m = fit_short s r (finds layout_of s rs r e m).fit
 
 -- ---- any search
 -- a refused one has a number of at most 16
-abbrev Few : Result Record ℕ → Type 0
+abbrev Few : Lookup → Type 0
 Few (Err n) = n ≤ 16
 Few (Ok r) = Unit
 
@@ -132,7 +132,7 @@ name_few : (x : Reading) (s : List ℕ) (rs : List Record) → Few (locate_name 
 name_few wrong s rs = lit≤ tt
 name_few (bytes bs) s rs = sized (is_length (length bs))
   where
-    found : (f : Result Record ℕ) → Finding s rs bs f → Few f
+    found : (f : Lookup) → Finding s rs bs f → Few f
     found (Ok r) v = tt
     found (Err k) miss = lit≤ tt
 
@@ -152,7 +152,7 @@ search_sized : (s spelling : List ℕ) → IsSized (search_by chosen s spelling)
 unfolding search_by
 search_sized s spelling = go (locate s spelling) (located_few s spelling)
   where
-    go : (f : Result Record ℕ) → Few f → IsSized (answer_at chosen f)
+    go : (f : Lookup) → Few f → IsSized (answer_at chosen f)
     go (Err n) h = le_trans h (lit≤ tt)
     go (Ok r) h = answer_sized r.kind r.first r.second
 

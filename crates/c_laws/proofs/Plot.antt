@@ -7,6 +7,7 @@ use mathlib.Core.Path.{◌≡◌, refl, sym, ap, ◌∙◌, subst}
 use Prim.Native.Nat.{ℕ}
 use lib.Dec.{T}
 use lib.IntN.{ℤ}
+use Rattle.sheet_search.specs.Find.{Lookup}
 use Rattle.air.specs.declared.Logs.{Logs}
 use Rattle.air.specs.Held.{Held}
 use Rattle.air.specs.Choices.{chosen}
@@ -19,7 +20,7 @@ use Rattle.flat.specs.Back.{bit, held_in}
 use Rattle.flat.proofs.Back.{settled, back}
 use Rattle.c_laws.specs.Plot.{Points, PlotExact}
 
-at_shown : (f : Result Record ℕ) → CanDraw (answer_at chosen f)
+at_shown : (f : Lookup) → CanDraw (answer_at chosen f)
 at_shown (Err n) = tt
 at_shown (Ok r) = answer_shown r.kind r.first r.second
 

@@ -13,7 +13,7 @@ use Rattle.air.specs.Held.{Held}
 use Rattle.mark.specs.Mark.{mark_of}
 use Rattle.line.specs.Line.{line}
 use Rattle.sheet.specs.Sheet.{sheet_of}
-use Rattle.sheet_search.specs.Find.{Inside}
+use Rattle.sheet_search.specs.Find.{Lookup, Inside}
 use Rattle.sheet_search.proofs.Pages.{page_of, Reply, missed, found, reply_of, reply_name, name_reply}
 use Rattle.sheet_search.proofs.Remarks.{remarks_page}
 use Rattle.sheet_remark.specs.Remark.{remark_of, remark_bytes}
@@ -38,14 +38,14 @@ abbrev flat_reply : Reply → CRecord
 flat_reply (missed k) = record { number = k; kind = 0; first = 0; second = 0; start = 0; length = 0 }
 flat_reply (found e) = record { number = 0; kind = e.kind; first = e.first; second = e.second; start = 0; length = length e.name }
 
-placeless_is : (s : List ℕ) (l : Result Record ℕ) → Inside s l → placeless (flat_found l) ≡ flat_reply (reply_of s l)
+placeless_is : (s : List ℕ) (l : Lookup) → Inside s l → placeless (flat_found l) ≡ flat_reply (reply_of s l)
 unfolding flat_found
 placeless_is s (Err k) w = refl
 placeless_is s (Ok r) w =
     let m : r.len ≤ length (drop r.start s) = omega (arith, w.fits, length-drop r.start s) in
     ap (λ (n : ℕ). record { number = 0; kind = r.kind; first = r.first; second = r.second; start = 0; length = n }) (sym (length-take-le r.len (drop r.start s) m))
 
-same_flat : (s t : List ℕ) (l k : Result Record ℕ) → Inside s l → Inside t k → reply_of s l ≡ reply_of t k → SameRecord s t (flat_found l) (flat_found k)
+same_flat : (s t : List ℕ) (l k : Lookup) → Inside s l → Inside t k → reply_of s l ≡ reply_of t k → SameRecord s t (flat_found l) (flat_found k)
 same_flat s t l k v w e =
     record {
       fields = placeless_is s l v ∙ ap flat_reply e ∙ sym (placeless_is t k w);
@@ -73,7 +73,7 @@ flat_remarks_aside s t d = record { for_c = same_for_c s t (remarks_page s t d);
 pub found_remark : FoundRemark
 unfolding flat_remark
 found_remark s rs r spelling c e m k h =
-    let l : c ≡ flat_remark (remark_of s (Ok r)) = h ∙ ap (λ (f : Result Record ℕ). flat_remark (remark_of s f)) (locates s rs r spelling e m k) in
+    let l : c ≡ flat_remark (remark_of s (Ok r)) = h ∙ ap (λ (f : Lookup). flat_remark (remark_of s f)) (locates s rs r spelling e m k) in
     record {
       no_refusal = ap (λ (p : CPart). p.number) l;
       start_is = ap (λ (p : CPart). p.start) l;

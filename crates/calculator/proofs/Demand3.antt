@@ -4,6 +4,7 @@ use mathlib.Core.List.{List, Memᴰ}
 use mathlib.Core.Path.{◌≡◌, ap, ◌∙◌, subst}
 use Prim.Native.Nat.{ℕ}
 use lib.Dec.{lit≤}
+use Rattle.sheet_search.specs.Find.{Lookup}
 use Rattle.octets.specs.Room.{text}
 use Rattle.name.specs.Name.{name_of}
 use Rattle.sheet_record.specs.declared.Record.{Record}
@@ -41,9 +42,9 @@ locates s rs r spelling e m k = ap (locate_in s spelling) e ∙ ap (locate_name 
 pub demand3 : Demand3
 unfolding IsSearch
 demand3 s rs r spelling a e m k searched ok =
-    answered r.kind r.first r.second a (subst (λ (f : Result Record ℕ). AnswerAt f a) (locates s rs r spelling e m k) searched) ok
+    answered r.kind r.first r.second a (subst (λ (f : Lookup). AnswerAt f a) (locates s rs r spelling e m k) searched) ok
 
-allowed_at : (c : Choices) → Lawful c → (f : Result Record ℕ) (a : Answer) → held a ≡ answer_at c f → AnswerAt f a
+allowed_at : (c : Choices) → Lawful c → (f : Lookup) (a : Answer) → held a ≡ answer_at c f → AnswerAt f a
 allowed_at c law (Err n) a e = e
 allowed_at c law (Ok r) a e = allowed c law r.kind r.first r.second a e
 

@@ -13,7 +13,7 @@ use Rattle.name.specs.Name.{is_length, judged, name_of}
 use Rattle.sheet_record.specs.declared.Record.{Record}
 use Rattle.sheet.specs.Sheet.{Sheet, records, sheet_of, number_of}
 use Rattle.sheet.proofs.Counted.{accepted_records}
-use Rattle.sheet_search.specs.Find.{find_in, handed_back}
+use Rattle.sheet_search.specs.Find.{Lookup, find_in, handed_back}
 use Rattle.sheet_search.proofs.Searching.{Finding, hit, miss, finding}
 use Rattle.air.specs.declared.Answer.{Answer}
 use Rattle.air.specs.Held.{Held}
@@ -45,14 +45,14 @@ name_never spelling {k} e z = go (reading spelling) (e ∙ ap Room.refused z)
         sized false h = let f : ◌≡◌ {A = ℕ} 8 0 = cc in omega arith
 
 module _ (s spelling : List ℕ) (a : Answer) where
-  abbrev Named : Result Record ℕ → Type 0
+  abbrev Named : Lookup → Type 0
   Named f = NamedAnswer s spelling a (handed_back s f)
 
   named : (rs : List Record) → sheet_of s ≡ records rs → (t : Text) → name_of spelling ≡ t → AnswerAt (locate_name s rs t) a → Named (locate_name s rs t)
   named rs e (Room.refused k) p h = refused _ h (name_never spelling p)
   named rs e (text name) p h = go (find_in s rs name) (finding s rs name) h
     where
-      go : (f : Result Record ℕ) → Finding s rs name f → AnswerAt f a → Named f
+      go : (f : Lookup) → Finding s rs name f → AnswerAt f a → Named f
       go (Ok r) (hit m q) l = found e m (p ∙ ap text (sym q)) l
       go (Err n) miss l = refused _ l (λ z. omega arith)
 

@@ -6,7 +6,7 @@ use Prim.Native.Nat.{ℕ}
 use Rattle.octets.specs.Room.{Text, text, refused}
 use Rattle.name.specs.Name.{name_of}
 use Rattle.sheet_record.specs.declared.Record.{Record}
-use Rattle.sheet_search.specs.Find.{handed_back}
+use Rattle.sheet_search.specs.Find.{Lookup, handed_back}
 use Rattle.sheet.specs.Sheet.{Sheet, records, sheet_of}
 use Rattle.sheet_search.proofs.Pages.{Page, without, with, page_of, Reply, missed, found, reply_of, find_on, find_page, reply_name, name_reply}
 use Rattle.air.specs.declared.Answer.{Answer}
@@ -36,7 +36,7 @@ abbrev reply_held : Choices → Reply → Held
 reply_held c (missed k) = refuses k
 reply_held c (found e) = answer_by c e.kind e.first e.second
 
-held_reply : (c : Choices) (s : List ℕ) (l : Result Record ℕ) → answer_at c l ≡ reply_held c (reply_of s l)
+held_reply : (c : Choices) (s : List ℕ) (l : Lookup) → answer_at c l ≡ reply_held c (reply_of s l)
 held_reply c s (Err k) = refl
 held_reply c s (Ok r) = refl
 
@@ -45,11 +45,11 @@ abbrev ReplyAllows : Reply → Answer → Type 0
 ReplyAllows (missed k) a = held a ≡ refuses k
 ReplyAllows (found e) a = IsAnswer e.kind e.first e.second a
 
-reply_allows : (s : List ℕ) (l : Result Record ℕ) (a : Answer) → AnswerAt l a → ReplyAllows (reply_of s l) a
+reply_allows : (s : List ℕ) (l : Lookup) (a : Answer) → AnswerAt l a → ReplyAllows (reply_of s l) a
 reply_allows s (Err k) a h = h
 reply_allows s (Ok r) a h = h
 
-allows_reply : (s : List ℕ) (l : Result Record ℕ) (a : Answer) → ReplyAllows (reply_of s l) a → AnswerAt l a
+allows_reply : (s : List ℕ) (l : Lookup) (a : Answer) → ReplyAllows (reply_of s l) a → AnswerAt l a
 allows_reply s (Err k) a h = h
 allows_reply s (Ok r) a h = h
 

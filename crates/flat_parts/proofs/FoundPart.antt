@@ -6,16 +6,16 @@ use Prim.Native.Nat.{ℕ, ◌+◌, ◌≤◌}
 use native.Mathlib.Omega.{arith}
 use lib.ListN.{length}
 use Rattle.octets.specs.Bytes.{part}
-use Rattle.sheet_search.specs.Find.{handed_back, Inside}
+use Rattle.sheet_search.specs.Find.{Lookup, handed_back, Inside}
 use Rattle.sheet_remark.specs.Remark.{remark_bytes, RemarkInside}
 use Rattle.flat_parts.specs.Flat.{flat_found, flat_remark}
 
-pub found_part : (s : List ℕ) (f : Result Record ℕ) → part s (flat_found f).start (flat_found f).length ≡ handed_back s f
+pub found_part : (s : List ℕ) (f : Lookup) → part s (flat_found f).start (flat_found f).length ≡ handed_back s f
 unfolding flat_found
 found_part s (Err n) = refl
 found_part s (Ok r) = refl
 
-pub found_inside : (s : List ℕ) (f : Result Record ℕ) → Inside s f → (flat_found f).start + (flat_found f).length ≤ length s
+pub found_inside : (s : List ℕ) (f : Lookup) → Inside s f → (flat_found f).start + (flat_found f).length ≤ length s
 unfolding flat_found
 found_inside s (Err n) h = omega arith
 found_inside s (Ok r) h = omega (arith, h.fits)

@@ -2,6 +2,7 @@
 use Rattle.std.specs.Prelude.{ℕ, pos, Result, Ok, Err}
 use Rattle.std.specs.Float.{binary64}
 use Rattle.std.specs.Float.Ieee.{of_int}
+use Rattle.sheet_search.specs.Find.{Lookup}
 use Rattle.sheet_record.specs.declared.Record.{Record}
 use Rattle.sheet_remark.specs.declared.Part.{Part}
 use Rattle.mark.specs.declared.Point.{Point}
@@ -11,7 +12,7 @@ use Rattle.flat_parts.specs.declared.CPart.{CPart}
 use Rattle.flat_parts.specs.declared.CMark.{CMark}
 
 -- a found record, with the part of the sheet that holds its name as start and length
-unfoldable pub flat_found : Result Record ℕ → CRecord
+unfoldable pub flat_found : Lookup → CRecord
 flat_found (Err n) = record { number = n; kind = 0; first = 0; second = 0; start = 0; length = 0 }
 flat_found (Ok r) = record { number = 0; kind = r.kind; first = r.first; second = r.second; start = r.start; length = r.len }
 

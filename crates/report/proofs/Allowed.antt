@@ -6,6 +6,7 @@ use mathlib.Core.List.{List, [], ◌∷◌, ◌++◌}
 use mathlib.Core.Path.{◌≡◌, refl, subst}
 use Prim.Native.Nat.{ℕ}
 use lib.IntN.{ℤ}
+use Rattle.sheet_search.specs.Find.{Lookup}
 use Rattle.air.specs.declared.Answer.{Answer}
 use Rattle.air.specs.declared.Answer.TheVariants.{Judged, Shows}
 use Rattle.air.specs.declared.Answer.TheVariants as a
@@ -91,7 +92,7 @@ module _ (c : Choices) where
   unfolding answer_by
   state kind first second = by_kind (kind_of kind) first second
 
-  found : (f : Result Record ℕ) → Holder (answer_at c f)
+  found : (f : Lookup) → Holder (answer_at c f)
   found (Err n) = refusal n
   found (Ok x) = state x.kind x.first x.second
 

@@ -6,6 +6,7 @@ use mathlib.Core.Path.{◌≡◌, refl, sym, ap, ap₂, ◌∙◌}
 use Prim.Native.Nat.{ℕ, suc}
 use lib.Dec.{ltb}
 use lib.ListN.{length}
+use Rattle.sheet_search.specs.Find.{Lookup}
 use Rattle.octets.specs.Room.{Text, refused, fitting}
 use Rattle.name.specs.Spelling.{spelled}
 use Rattle.air.specs.Choices.{Choices}
@@ -39,7 +40,7 @@ abbrev line_reply : Choices → Reply → List ℕ
 line_reply c (missed k) = []
 line_reply c (found e) = line_of (spelled e.name) (answer_by c e.kind e.first e.second)
 
-line_reply_lem : (c : Choices) (s : List ℕ) (l : Result Record ℕ) → line_at c s l ≡ line_reply c (reply_of s l)
+line_reply_lem : (c : Choices) (s : List ℕ) (l : Lookup) → line_at c s l ≡ line_reply c (reply_of s l)
 line_reply_lem c s (Err k) = refl
 line_reply_lem c s (Ok r) = refl
 

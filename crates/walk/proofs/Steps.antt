@@ -10,6 +10,7 @@ use borrow.Author.Tests.{lt-ltb, le-ltb, le-leb}
 use lib.Dec.{leb}
 use lib.IntN.{ℤ}
 use lib.ListN.{length}
+use Rattle.sheet_search.specs.Find.{Lookup}
 use Rattle.octets.specs.Bytes.{number_at}
 use Rattle.octets.specs.Room.{Text, refused, text, fitting, written, outcome_of}
 use Rattle.octets.proofs.Told.{fits}
@@ -69,11 +70,11 @@ module _ (c : Choices) (s : List ℕ) (w : Walk) (room : ℕ) where
     step_over h = step_is ∙ ap (λ (b : Bool). fitting room (cond b (line_at c s (record_in (records_of (sheet_of s)) w.given)) [])) (le-ltb w.given w.count h) ∙ fits room [] (omega arith)
 
     -- or else by the record that comes next
-    pub step_at : w.given < w.count → (f : Result Record ℕ) → f ≡ record_of s w.given → stepped c s w room ≡ fitting room (line_at c s f)
+    pub step_at : w.given < w.count → (f : Lookup) → f ≡ record_of s w.given → stepped c s w room ≡ fitting room (line_at c s f)
     step_at h f e =
         step_is
         ∙ ap (λ (b : Bool). fitting room (cond b (line_at c s (record_in (records_of (sheet_of s)) w.given)) [])) (lt-ltb w.given w.count h)
-        ∙ ap (λ (g : Result Record ℕ). fitting room (line_at c s g)) (sym (e ∙ ap (λ (t : Sheet). record_by t w.given) (accepted_records s a)))
+        ∙ ap (λ (g : Lookup). fitting room (line_at c s g)) (sym (e ∙ ap (λ (t : Sheet). record_by t w.given) (accepted_records s a)))
 
 -- what is told of a step, and the room afterwards
 abbrev pub StepTells : Walk → Text → Step → List ℕ → List ℕ → Type 0

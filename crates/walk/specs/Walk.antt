@@ -1,5 +1,6 @@
 -- Request 7: a walk over the records of a sheet, a line a step.
 use Rattle.std.specs.Prelude.{cond, List, [], ◌∷◌, ℕ, ◌+◌, ltb, length, Ok, Err, Result}
+use Rattle.sheet_search.specs.Find.{Lookup}
 use Rattle.octets.specs.Room.{Text, refused, text, fitting}
 use Rattle.name.specs.Spelling.{spelled}
 use Rattle.air.specs.Choices.{Choices}
@@ -23,7 +24,7 @@ abbrev pub line_of_record : Choices → List ℕ → Record → List ℕ
 line_of_record c s r = line_of (spelled (name_in s r)) (answer_by c r.kind r.first r.second)
 
 -- the same of the record that has a number; nothing where there is none
-abbrev pub line_at : Choices → List ℕ → Result Record ℕ → List ℕ
+abbrev pub line_at : Choices → List ℕ → Lookup → List ℕ
 line_at c s (Err k) = []
 line_at c s (Ok r) = line_of_record c s r
 
