@@ -43,5 +43,5 @@ module _ {sheet list room last : List ℕ} {n : ℕ} (b : Begun sheet list room 
   begun_whole h = whole sheet list room last b.holds (sym b.count ∙ b.told) (refusal (omega arith))
 
 -- a room of 71 bytes is enough
-pub never_refused : (sheet list room : List ℕ) (r : Outcome) (k : ℕ) → r ≡ outcome_of (fitting (length room) (refusal_of sheet list)) → length (refusal_of sheet list) ≤ 71 → 71 ≤ length room → r ≡ Refused k → ⊥
+pub never_refused : (sheet list room : List ℕ) (r : Result ℕ ℕ) (k : ℕ) → r ≡ outcome_of (fitting (length room) (refusal_of sheet list)) → length (refusal_of sheet list) ≤ 71 → 71 ≤ length room → r ≡ Refused k → ⊥
 never_refused sheet list room r k e h l f = let d = answered sheet list room r h l e in let p : ◌≡◌ {A = ℕ} 0 1 = cc in omega arith

@@ -9,7 +9,6 @@ use lib.Seq.{take_at, drop-append-add, drop-drop}
 use Rattle.air.specs.Choices.{chosen}
 use Rattle.calculator.specs.Search.{search_by}
 use Rattle.line.specs.Line.{line}
-use Rattle.line.specs.declared.Line.{Line}
 use Rattle.octets.specs.Room.{text, written}
 use Rattle.name_list.specs.Lines.{lines_of}
 use Rattle.report.specs.Listing.{lines_by}
@@ -31,12 +30,12 @@ lines_append sheet (n ∷ ns) b =
 abbrev pub left : List ℕ → List ℕ → ℕ → ℕ
 left sheet list start = length (lines_by chosen sheet (lines_of (drop start list)))
 
-pub left_next : (sheet list : List ℕ) (start next : ℕ) (x : Line) → NextLine sheet list start next x → left sheet list start ≡ x.len + left sheet list next
+pub left_next : (sheet list : List ℕ) (start next : ℕ) (x : List ℕ) → NextLine sheet list start next x → left sheet list start ≡ length x + left sheet list next
 unfolding lines_by
 left_next sheet list start next x f =
     ap (λ (ns : List (List ℕ)). length (lines_by chosen sheet ns)) f.names
     ∙ length-append (one sheet f.name) (lines_by chosen sheet (lines_of (drop next list)))
-    ∙ ap (λ (n : ℕ). n + left sheet list next) (sym (ap (λ (y : Line). y.len) f.text))
+    ∙ ap (λ (n : ℕ). n + left sheet list next) (sym (ap length f.text))
 
 pub left_none : (sheet list : List ℕ) (start : ℕ) → length list ≤ start → left sheet list start ≡ 0
 unfolding lines_by
@@ -65,35 +64,35 @@ module _ (sheet list room out : List ℕ) (first start at : ℕ) (p : Part sheet
       ∙ length-append before (lines_by chosen sheet (lines_of (drop start list)))
       ∙ ap (λ (n : ℕ). n + left sheet list start) (sym p.here)
 
-  module _ (next : ℕ) (x : Line) (f : NextLine sheet list start next x) (k : at + x.len ≤ length room) (last : List ℕ)
-      (q : last ≡ take at out ++ (one sheet f.name ++ drop (at + x.len) out)) where
+  module _ (next : ℕ) (x : List ℕ) (f : NextLine sheet list start next x) (k : at + length x ≤ length room) (last : List ℕ)
+      (q : last ≡ take at out ++ (one sheet f.name ++ drop (at + length x) out)) where
     abbrev name : List ℕ
     name = f.name
 
     after : lines_by chosen sheet (p.done ++ (name ∷ [])) ≡ before ++ one sheet name
     after = lines_append sheet p.done (name ∷ []) ∙ ap (λ (l : List ℕ). before ++ l) (lines_one sheet name)
 
-    size : at + x.len ≡ length (before ++ one sheet name)
-    size = omega (arith, p.here, ap (λ (y : Line). y.len) f.text, length-append before (one sheet name))
+    size : at + length x ≡ length (before ++ one sheet name)
+    size = omega (arith, p.here, ap length f.text, length-append before (one sheet name))
 
     front : take at out ≡ before
     front = ap (take at) p.holds ∙ take_at before (drop (length before) room) at (sym p.here)
 
-    behind : drop (at + x.len) out ≡ drop (at + x.len) room
+    behind : drop (at + length x) out ≡ drop (at + length x) room
     behind =
         let h : out ≡ before ++ drop at room = p.holds ∙ ap (λ (n : ℕ). before ++ drop n room) (sym p.here) in
-        ap (drop (at + x.len)) h
-        ∙ subst (λ (m : ℕ). drop (m + x.len) (before ++ drop at room) ≡ drop x.len (drop at room)) (sym p.here) (drop-append-add before (drop at room) x.len)
-        ∙ drop-drop x.len at room
+        ap (drop (at + length x)) h
+        ∙ subst (λ (m : ℕ). drop (m + length x) (before ++ drop at room) ≡ drop (length x) (drop at room)) (sym p.here) (drop-append-add before (drop at room) length x)
+        ∙ drop-drop (length x) at room
 
-    grown : last ≡ (before ++ one sheet name) ++ drop (at + x.len) room
+    grown : last ≡ (before ++ one sheet name) ++ drop (at + length x) room
     grown =
         q
-        ∙ ap (λ (y : List ℕ). y ++ (one sheet name ++ drop (at + x.len) out)) front
+        ∙ ap (λ (y : List ℕ). y ++ (one sheet name ++ drop (at + length x) out)) front
         ∙ ap (λ (y : List ℕ). before ++ (one sheet name ++ y)) behind
-        ∙ sym (append_assoc before (one sheet name) (drop (at + x.len) room))
+        ∙ sym (append_assoc before (one sheet name) (drop (at + length x) room))
 
-    pub part_next : Part sheet list room last first next (at + x.len)
+    pub part_next : Part sheet list room last first next (at + length x)
     part_next =
         record {
           done = p.done ++ (name ∷ []);

@@ -37,7 +37,7 @@ module _ (sheet list : List ℕ) where
 
   -- `begin` answered r and left `last` in the room
   module _ (room last : List ℕ) (w : last ≡ written (fitting (length room) (refusal_of sheet list)) room) where
-    pub whole : {r : Outcome} {out : List ℕ} → r ≡ outcome_of (fitting (length room) (refusal_of sheet list)) → Output sheet list last r out → out ≡ listing_by chosen sheet list
+    pub whole : {r : Result ℕ ℕ} {out : List ℕ} → r ≡ outcome_of (fitting (length room) (refusal_of sheet list)) → Output sheet list last r out → out ≡ listing_by chosen sheet list
     whole e (refusal {n} h) =
         let t = refusal_of sheet list in
         let d = done_fits t (length room) n e in
@@ -47,5 +47,5 @@ module _ (sheet list : List ℕ) where
     whole e (lines ps) = parts_text ps ∙ sym (all_lines sheet list (length room) (Ok 0) e refl).1
 
     -- and document 01 allows it
-    pub output_allowed : {r : Outcome} {out : List ℕ} → r ≡ outcome_of (fitting (length room) (refusal_of sheet list)) → Output sheet list last r out → IsListing sheet list out
+    pub output_allowed : {r : Result ℕ ℕ} {out : List ℕ} → r ≡ outcome_of (fitting (length room) (refusal_of sheet list)) → Output sheet list last r out → IsListing sheet list out
     output_allowed e o = subst (IsListing sheet list) (sym (whole e o)) (listing_allowed chosen lawful sheet list)

@@ -2,18 +2,17 @@
 use Rattle.std.specs.Prelude.{List, [], ◌∷◌, ◌++◌, ◌≡◌, ℕ, ◌+◌, ◌≤◌, ◌<◌, length, take, drop, Ok, Result}
 use Rattle.air.specs.Choices.{chosen}
 use Rattle.calculator.specs.Search.{search_by}
-use Rattle.line.specs.declared.Line.{Line}
-use Rattle.line.specs.Line.{line, line_room, line_held}
+use Rattle.line.specs.Line.{line, line_room}
 use Rattle.octets.specs.Room.{text, written}
 use Rattle.name_list.specs.Lines.{lines_of}
 use Rattle.report.specs.Listing.{lines_by}
 
 -- the line of the name that starts at a place; the other names start at `next`
-pub record NextLine (sheet list : List ℕ) (start next : ℕ) (built : Line) : Type 0 where
+pub record NextLine (sheet list : List ℕ) (start next : ℕ) (built : List ℕ) : Type 0 where
   pub name : List ℕ
   pub names : lines_of (drop start list) ≡ name ∷ lines_of (drop next list)
-  pub text : built ≡ line_held (line name (search_by chosen sheet name))
-  pub short : built.len ≤ line_room
+  pub text : built ≡ line name (search_by chosen sheet name)
+  pub short : length built ≤ line_room
   pub after : start < next
   pub inside : next ≤ length list + 1
 

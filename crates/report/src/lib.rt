@@ -5,7 +5,7 @@ ghost use Rattle.std.specs.Prelude.{◌≡◌, ◌<◌, ◌≤◌, length, drop}
 ghost use Rattle.refusal.specs.Numbered.{numbered};
 ghost use Rattle.air.specs.Choices.{chosen};
 ghost use Rattle.calculator.specs.Search.{search_by};
-ghost use Rattle.line.specs.Line.{line, line_held};
+ghost use Rattle.line.specs.Line.{line};
 ghost use Rattle.octets.specs.Room.{fitting, written, outcome_of};
 ghost use Rattle.name_list.specs.Lines.{lines_of};
 ghost use Rattle.report.specs.Listing.{lines_by};
@@ -35,13 +35,13 @@ pub fn line(sheet: &[u8], spelled: &[u8], out: &mut [u8]) -> Result<usize, Refus
     ensures out_after { out.new ≡ written (fitting (length out.old) (line spelled.now (search_by chosen sheet.now spelled.now))) out.old }
 {
     let answer = calculator::search(sheet, spelled);
-    line_room::put_line(line::line_of(spelled, answer), out)
+    line_room::put_line(&line::line_of(spelled, answer), out)
 }
 
 // The line of the name that starts at a place of the list, under an accepted sheet.
 pub fn next_line(sheet: &Sheet, list: &[u8], start: usize) -> Built
     requires { start < length list.now }
-    ensures { NextLine sheet.now list.now start result.next result.line }
+    ensures { NextLine sheet.now list.now start result.next result.line.items }
 {
     let end = name_list::line_end(list, start);
     let spelled = &list[start..end];
