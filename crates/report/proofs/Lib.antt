@@ -1,3 +1,4 @@
+pub mod Named
 pub mod Output
 pub mod Cases
 pub mod Allowed

@@ -10,10 +10,18 @@ use Rattle.air.specs.Choices.{chosen}
 use Rattle.calculator.specs.Search.{search_by}
 use Rattle.line.specs.Line.{line}
 use Rattle.octets.specs.Room.{text, written}
-use Rattle.name_list.specs.Lines.{lines_of}
+use Rattle.octets.proofs.Stores.{dropped}
+use Rattle.name_list.specs.Lines.{lines_from, lines_of}
 use Rattle.report.specs.Listing.{lines_by}
 use Rattle.report.specs.Steps.{NextLine, Part}
-use Rattle.name_list.proofs.Lines.{none_left}
+
+-- behind the end of a list there is no line
+no_lines : lines_of [] ≡ []
+unfolding lines_from
+no_lines = refl
+
+pub none_left : (list : List ℕ) (start : ℕ) → length list ≤ start → lines_of (drop start list) ≡ []
+none_left list start h = ap lines_of (dropped start list h) ∙ no_lines
 
 -- the line of one name
 abbrev pub one : List ℕ → List ℕ → List ℕ

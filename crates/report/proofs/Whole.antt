@@ -15,8 +15,7 @@ use Rattle.name_list.specs.Lines.{lines_of}
 use Rattle.report_refusal.specs.Refusal.{refusal_of}
 use Rattle.report.specs.Listing.{lines_by, listing_by, IsListing}
 use Rattle.report.specs.Steps.{Parts, none, more, Output, refusal, lines}
-use Rattle.name_list.proofs.Lines.{none_left}
-use Rattle.report.proofs.Output.{lines_append}
+use Rattle.report.proofs.Output.{lines_append, none_left}
 use Rattle.report_refusal.proofs.Cases.{done_fits}
 use Rattle.report.proofs.Cases.{one_line, all_lines}
 use Rattle.report.proofs.Allowed.{listing_allowed}
