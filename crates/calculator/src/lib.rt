@@ -17,14 +17,18 @@ use sheet_record::Record;
 use sheet_remark::Part;
 
 // The record that a spelling finds in an accepted sheet.
+#[tactic(auto, using(crate::proofs::Located::name_refused, crate::proofs::Located::name_read))]
 pub fn locate_in(sheet: &Sheet, spelled: &[u8]) -> Result<Record, Refusal>
     ensures { numbered result ≡ locate sheet.now spelled.now }
 {
+    // that the sheet refuses nothing itself is told with its bytes
+    let _ = sheet.bytes();
     let name = name_reader::read(spelled)?;
     sheet_search::find(sheet, &name)
 }
 
 // The record that a spelling finds in any bytes: the sheet's refusals, then the name's, then 9.
+#[tactic(auto, using(crate::proofs::Located::sheet_refused))]
 pub fn locate(sheet: &[u8], spelled: &[u8]) -> Result<Record, Refusal>
     ensures { numbered result ≡ locate sheet.now spelled.now }
 {
@@ -44,6 +48,7 @@ fn answer_at(found: Result<Record, Refusal>) -> Answer
 }
 
 // The answer for a spelling in an accepted sheet.
+#[tactic(auto, unfolding(crate::specs::Search::search_by))]
 pub fn answer_in(sheet: &Sheet, spelled: &[u8]) -> Answer
     ensures { held result ≡ search_by chosen sheet.now spelled.now }
 {
