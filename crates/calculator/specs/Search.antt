@@ -1,5 +1,5 @@
 -- The search of a sheet by a spelled name: document 01's table up to the state row, in order.
-use Rattle.std.specs.Prelude.{List, ℕ, ◌≡◌, Ok, Err, Result}
+use Rattle.std.specs.Prelude.{List, ℕ, ◌≡◌, Ok, Err}
 use Rattle.octets.specs.Room.{Text, text, refused}
 use Rattle.name.specs.Name.{name_of}
 use Rattle.sheet_record.specs.declared.Record.{Record}
