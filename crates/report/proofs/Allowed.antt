@@ -35,12 +35,12 @@ use Rattle.bands.specs.Bands.{strip_of}
 use Rattle.bands.specs.declared.Region.{Region}
 use Rattle.bands.specs.declared.Region.TheVariants as r
 use Rattle.bands.specs.Region.{region_of}
-use Rattle.calculator.specs.Search.{locate, answer_at, search_by}
+use Rattle.calculator.specs.Search.{answer_at, search_by}
 use Rattle.calculator.proofs.Demand3.{search_allowed}
 use Rattle.line.specs.Line.{line}
 use Rattle.name_list.specs.Lines.{lines_of}
 use Rattle.refusal.specs.declared.Refusal.TheVariants.{UnknownKind, FirstValue, SecondValue, OutsideFits, TemperatureFit, Gamma}
-use Rattle.report.proofs.Named.{Named, by, LookupNamed, located}
+use Rattle.report.proofs.Named.{Named, by, LookupNamed, is_err, is_ok, located}
 use Rattle.report.specs.Listing.{lines_by, listing_by, Lines, done, next, IsListing}
 
 -- an answer that holds h
@@ -95,14 +95,14 @@ module _ (c : Choices) where
   unfolding answer_by
   state kind first second = by_kind (kind_of kind) first second
 
-  found : (f : Lookup) → LookupNamed f → Holder (answer_at c f)
-  found (Err n) r = refusal r
-  found (Ok x) r = state x.kind x.first x.second
+  found : {f : Lookup} → LookupNamed f → Holder (answer_at c f)
+  found (is_err r) = refusal (by r)
+  found (is_ok {r = x}) = state x.kind x.first x.second
 
   -- and to a search
   pub searched : (sheet spelling : List ℕ) → Holder (search_by c sheet spelling)
   unfolding search_by
-  searched sheet spelling = found (locate sheet spelling) (located sheet spelling)
+  searched sheet spelling = found (located sheet spelling)
 
 module _ (c : Choices) (law : Lawful c) (sheet : List ℕ) where
   lines : (ns : List (List ℕ)) → Lines sheet ns (lines_by c sheet ns)

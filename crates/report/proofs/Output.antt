@@ -90,7 +90,7 @@ module _ (sheet list room out : List ℕ) (first start at : ℕ) (p : Part sheet
     behind =
         let h : out ≡ before ++ drop at room = p.holds ∙ ap (λ (n : ℕ). before ++ drop n room) (sym p.here) in
         ap (drop (at + length x)) h
-        ∙ subst (λ (m : ℕ). drop (m + length x) (before ++ drop at room) ≡ drop (length x) (drop at room)) (sym p.here) (drop-append-add before (drop at room) length x)
+        ∙ subst (λ (m : ℕ). drop (m + length x) (before ++ drop at room) ≡ drop (length x) (drop at room)) (sym p.here) (drop-append-add before (drop at room) (length x))
         ∙ drop-drop (length x) at room
 
     grown : last ≡ (before ++ one sheet name) ++ drop (at + length x) room
