@@ -1,5 +1,5 @@
 -- Request 6: a sheet's records in a version, with empty remarks.
-use Rattle.std.specs.Prelude.{Bool, true, cond, ◌&&◌, List, [], ◌∷◌, ◌++◌, ℕ, ◌+◌, eqb, get_or}
+use Rattle.std.specs.Prelude.{Bool, true, cond, ◌&&◌, List, [], ◌∷◌, ◌++◌, ℕ, ◌+◌, eqb}
 use Rattle.octets.specs.Bytes.{part}
 use Rattle.sheet_record.specs.declared.Record.{Record}
 use Rattle.sheet_remark.specs.Remark.{remark_in}
@@ -12,9 +12,9 @@ empty_remark version = cond (eqb version 2) (0 ∷ []) []
 abbrev pub record_bytes : List ℕ → Record → List ℕ
 record_bytes s r = r.len ∷ part s r.start (r.len + 17)
 
--- the same from its place in the sheet, with an empty remark
-abbrev pub record_from : ℕ → List ℕ → ℕ → List ℕ
-record_from version s at = part s at (18 + get_or s at 0) ++ empty_remark version
+-- the same with an empty remark
+abbrev pub record_as : ℕ → List ℕ → Record → List ℕ
+record_as version s r = record_bytes s r ++ empty_remark version
 
 -- records in turn, each with an empty remark
 unfoldable pub records_as : ℕ → List ℕ → List Record → List ℕ

@@ -1,15 +1,18 @@
 // A sheet's records in a version, with empty remarks.
 #![tactic(auto)]
 
-ghost use Rattle.std.specs.Prelude.{not, ◌++◌, ◌≡◌, ◌+◌, ◌≤◌, length, get_or, drop};
+ghost use Rattle.std.specs.Prelude.{not, ◌++◌, ◌≡◌, ◌+◌, ◌≤◌, ◌<◌, eqb, length, drop, Ok};
 ghost use Rattle.refusal.specs.Numbered.{numbered};
-ghost use Rattle.octets.specs.Bytes.{number_at};
 ghost use Rattle.octets.specs.Room.{fitting, written, put_at, outcome_of};
-ghost use Rattle.sheet.specs.Sheet.{sheet_of, Accepted, records_of};
-ghost use Rattle.convert_records.specs.Records.{empty_remark, records_as, header_as, sheet_as, bare, record_from};
+ghost use Rattle.sheet_record.specs.Front.{values_end};
+ghost use Rattle.sheet.specs.Sheet.{sheet_of, records_of};
+ghost use Rattle.sheet_search.specs.Find.{Inside};
+ghost use Rattle.sheet_remark.specs.Remark.{remark_in};
+ghost use Rattle.convert_records.specs.Records.{empty_remark, record_as, records_as, header_as, sheet_as, bare};
 
 use refusal::Refusal;
-use sheet_reader::Reader;
+use sheet::Sheet;
+use sheet_record::Record;
 
 // An empty remark in a version.
 fn empty_remark(version: u8) -> &'static [u8]
@@ -26,52 +29,60 @@ fn put_header(s: &[u8], version: u8, out: &mut [u8])
     out[..7].copy_from_slice(&[b'E', b'A', b'S', 0, version, s[5], s[6]]);
 }
 
-// Copies the record at a place of a sheet to a place of a room, with an empty remark, and gives the place behind it.
-fn put_record(s: &[u8], from: usize, version: u8, out: &mut [u8], at: usize) -> usize
-    requires { (from + 18 + get_or s.now from 0 ≤ length s.now) × (at + length (record_from version s.now from) ≤ length out.old) }
-    ensures value { result ≡ at + length (record_from version s.now from) }
-    ensures out_after { out.new ≡ put_at out.old at (record_from version s.now from) }
+// Copies a record of a sheet to a place of a room, with an empty remark, and gives the place behind it.
+fn put_record(s: &[u8], r: Record, version: u8, out: &mut [u8], at: usize) -> usize
+    requires { (r.len < 256) × (values_end r ≤ length s.now) × (at + length (record_as version s.now r) ≤ length out.old) }
+    ensures value { result ≡ at + length (record_as version s.now r) }
+    ensures out_after { out.new ≡ put_at out.old at (record_as version s.now r) }
 {
-    let end = from + 18 + usize::from(s[from]);
-    let next = octets::append(&s[from..end], out, at);
-    octets::append(empty_remark(version), out, next)
+    let start = octets::append(&[r.len as u8], out, at);
+    let end = octets::append(&s[r.start..r.start + r.len + 17], out, start);
+    octets::append(empty_remark(version), out, end)
 }
 
-// Writes the records of an accepted sheet to a room behind its header, in a version and with empty remarks.
-fn put_records(s: &[u8], count: usize, version: u8, out: &mut [u8])
-    requires { Accepted s.now × (count ≡ number_at 2 s.now 5) × (7 + length (records_as version s.now (records_of (sheet_of s.now))) ≤ length out.old) }
-    ensures { out.new ≡ put_at out.old 7 (records_as version s.now (records_of (sheet_of s.now))) }
+// Writes the records of a sheet to a room behind its header, in a version and with empty remarks.
+#[tactic(auto, using(crate::proofs::Turns::short, crate::proofs::Turns::values_inside, crate::proofs::Turns::put_none, crate::proofs::Turns::put_room, crate::proofs::Turns::put_all))]
+fn put_records(sheet: &Sheet, version: u8, out: &mut [u8])
+    requires { 7 + length (records_as version sheet.now (records_of (sheet_of sheet.now))) ≤ length out.old }
+    ensures { out.new ≡ put_at out.old 7 (records_as version sheet.now (records_of (sheet_of sheet.now))) }
 {
-    let mut reader = Reader::new(s, count);
     let mut at = 7;
-    while let Some(from) = reader.step() {
-        at = put_record(s, from, version, out, at);
+    for i in 0..sheet.count() {
+        at = put_record(sheet.bytes(), sheet.record(i), version, out, at);
     }
 }
 
-// Writes an accepted sheet to lent room that is long enough for it, in a version and with empty remarks.
-pub fn put_sheet(s: &[u8], count: usize, version: u8, len: usize, out: &mut [u8]) -> Result<usize, Refusal>
-    requires { Accepted s.now × (count ≡ number_at 2 s.now 5) × (length (sheet_as version s.now (records_of (sheet_of s.now))) ≡ len) }
-    ensures value { numbered result ≡ outcome_of (fitting (length out.old) (sheet_as version s.now (records_of (sheet_of s.now)))) }
-    ensures out_after { out.new ≡ written (fitting (length out.old) (sheet_as version s.now (records_of (sheet_of s.now)))) out.old }
+// Writes a sheet to lent room that is long enough for it, in a version and with empty remarks.
+#[tactic(auto, using(sheet::proofs::Places::seven, crate::proofs::Turns::header_room, crate::proofs::Turns::put_whole))]
+pub fn put_sheet(sheet: &Sheet, version: u8, len: usize, out: &mut [u8]) -> Result<usize, Refusal>
+    requires { length (sheet_as version sheet.now (records_of (sheet_of sheet.now))) ≡ len }
+    ensures value { numbered result ≡ outcome_of (fitting (length out.old) (sheet_as version sheet.now (records_of (sheet_of sheet.now)))) }
+    ensures out_after { out.new ≡ written (fitting (length out.old) (sheet_as version sheet.now (records_of (sheet_of sheet.now)))) out.old }
 {
     if out.len() < len {
         return Err(Refusal::RoomTooShort);
     }
-    put_header(s, version, out);
-    put_records(s, count, version, out);
+    put_header(sheet.bytes(), version, out);
+    put_records(sheet, version, out);
     Ok(len)
 }
 
-// Whether some record of an accepted sheet has a remark.
-pub fn has_remark(s: &[u8], count: usize) -> bool
-    requires { Accepted s.now × (count ≡ number_at 2 s.now 5) }
-    ensures { bare s.now (records_of (sheet_of s.now)) ≡ not result }
+// Whether a record has a remark.
+#[tactic(auto, using(crate::proofs::Turns::remark_behind))]
+fn is_remarked(s: &[u8], r: Record) -> bool
+    requires { Inside s.now (Ok r) }
+    ensures { eqb (remark_in s.now r).len 0 ≡ not result }
 {
-    let mut reader = Reader::new(s, count);
-    while let Some(from) = reader.step() {
-        let end = from + 18 + usize::from(s[from]);
-        if 1 < sheet_record::tail_at(s, end) {
+    1 < sheet_record::tail_at(s, r.start + r.len + 17)
+}
+
+// Whether some record of a sheet has a remark.
+#[tactic(auto, using(crate::proofs::Turns::inside, crate::proofs::Turns::bare_found, crate::proofs::Turns::bare_more, crate::proofs::Turns::bare_none))]
+pub fn has_remark(sheet: &Sheet) -> bool
+    ensures { bare sheet.now (records_of (sheet_of sheet.now)) ≡ not result }
+{
+    for i in 0..sheet.count() {
+        if is_remarked(sheet.bytes(), sheet.record(i)) {
             return true;
         }
     }

@@ -1,9 +1,8 @@
+-- The records in front have no remark.
+use Rattle.std.specs.Prelude.{◌≡◌, true, take}
 use Rattle.sheet.specs.Sheet.{sheet_of, records_of}
-use Rattle.convert_records.proofs.Turns.{Looking}
+use Rattle.convert_records.specs.Records.{bare}
 use Rattle.convert_records.proofs.has_remark.Given as goal
 
-abbrev pub invariant-loop-unseen : goal.invariant-loop-unseen
-invariant-loop-unseen l = Looking l.s (records_of (sheet_of l.s)) l.from l.unseen
-
-abbrev pub decreases-loop-unseen : goal.decreases-loop-unseen
-decreases-loop-unseen l = l.unseen
+abbrev pub invariant-loop-i : goal.invariant-loop-i
+invariant-loop-i l = bare l.sheet (take l.i (records_of (sheet_of l.sheet))) ≡ true
