@@ -13,7 +13,7 @@ use Rattle.octets.proofs.Told.{fits, short}
 use Rattle.sheet_record.specs.declared.Record.{Record}
 use Rattle.sheet.specs.Sheet.{records, sheet_of, number_of, records_of}
 use Rattle.sheet_version.specs.Version.{sheet_in}
-use Rattle.sheet_version.proofs.Version.{read_in_lem, in_read, count_read}
+use Rattle.sheet_version.proofs.Version.{read_in_lem, in_read}
 use Rattle.sheet_remark.specs.Remark.{remark_in}
 use Rattle.convert_records.specs.Records.{sheet_as, bare}
 use Rattle.convert.specs.Convert.{forward, back}
@@ -24,26 +24,23 @@ use Rattle.convert.proofs.Texts.{forward_length, back_length, forward_own, forwa
 
 -- forward, the result is longer by the records that are read
 forward_count : (s : List ℕ) {rs : List Record} → sheet_in 1 s ≡ records rs → length (sheet_as 2 s (records_of (sheet_of s))) ≡ length s + length rs
-forward_count s p = let i = in_read 1 s p in forward_length s i.0 ∙ ap (λ (n : ℕ). length s + n) (sym (count_read 1 s i.0) ∙ ap length i.1)
+forward_count s p = let i = in_read 1 s p in forward_length s i.0 ∙ ap (λ (x : List Record). length s + length x) i.1
 
 -- where the sheet is accepted
 module _ (s : List ℕ) (room : ℕ) (a : number_of (sheet_in 1 s) ≡ 0) where
-  forward_len : length (sheet_as 2 s (records_of (sheet_of s))) ≡ length s + length (records_of (sheet_of s))
-  forward_len = forward_count s (read_in_lem 1 s a)
-
   forward_fits : (b : Bool) → ltb room (length s + length (records_of (sheet_of s))) ≡ b → length s + length (records_of (sheet_of s)) ≤ 65536
       → ForwardAnswer s room (forward s room)
   forward_fits true p m =
       let l = ltb-true room (length s + length (records_of (sheet_of s))) p in
-      subst (ForwardAnswer s room) (sym (forward_fitting s room _ a forward_len m ∙ short room (sheet_as 2 s (records_of (sheet_of s))) (omega (arith, forward_len)))) (ForwardAnswer.short (read_in_lem 1 s a) m l)
+      subst (ForwardAnswer s room) (sym (forward_fitting s room _ a (forward_length s a) m ∙ short room (sheet_as 2 s (records_of (sheet_of s))) (omega (arith, forward_length s a)))) (ForwardAnswer.short (read_in_lem 1 s a) m l)
   forward_fits false p m =
       let l = ltb-false room (length s + length (records_of (sheet_of s))) p in
-      subst (ForwardAnswer s room) (sym (forward_fitting s room _ a forward_len m ∙ fits room (sheet_as 2 s (records_of (sheet_of s))) (omega (arith, forward_len)))) (ForwardAnswer.taken (read_in_lem 1 s a) m l forward_len)
+      subst (ForwardAnswer s room) (sym (forward_fitting s room _ a (forward_length s a) m ∙ fits room (sheet_as 2 s (records_of (sheet_of s))) (omega (arith, forward_length s a)))) (ForwardAnswer.taken (read_in_lem 1 s a) m l (forward_length s a))
 
   forward_grown : (b : Bool) → ltb 65536 (length s + length (records_of (sheet_of s))) ≡ b → ForwardAnswer s room (forward s room)
   forward_grown true p =
       let l = ltb-true 65536 (length s + length (records_of (sheet_of s))) p in
-      subst (ForwardAnswer s room) (sym (forward_long s room _ a forward_len l)) (ForwardAnswer.long (read_in_lem 1 s a) l)
+      subst (ForwardAnswer s room) (sym (forward_long s room _ a (forward_length s a) l)) (ForwardAnswer.long (read_in_lem 1 s a) l)
   forward_grown false p =
       forward_fits (ltb room (length s + length (records_of (sheet_of s)))) refl (ltb-false 65536 (length s + length (records_of (sheet_of s))) p)
 
@@ -109,11 +106,11 @@ module _ (s : List ℕ) (room : ℕ) (a : number_of (sheet_in 2 s) ≡ 0) where
   back_fits n true p =
       let l = ltb-true room (length (sheet_as 1 s (records_of (sheet_of s)))) p in
       subst (BackAnswer s room) (sym (back_fitting s room a n ∙ short room (sheet_as 1 s (records_of (sheet_of s))) l))
-      (BackAnswer.short (read_in_lem 2 s a) (none_remarked s (records_of (sheet_of s)) n) (omega (arith, back_length s a n, count_read 2 s a)))
+      (BackAnswer.short (read_in_lem 2 s a) (none_remarked s (records_of (sheet_of s)) n) (omega (arith, back_length s a n)))
   back_fits n false p =
       let l = ltb-false room (length (sheet_as 1 s (records_of (sheet_of s)))) p in
       subst (BackAnswer s room) (sym (back_fitting s room a n ∙ fits room (sheet_as 1 s (records_of (sheet_of s))) l))
-      (BackAnswer.taken (read_in_lem 2 s a) (none_remarked s (records_of (sheet_of s)) n) (omega (arith, back_length s a n, count_read 2 s a)) (omega (arith, back_length s a n, count_read 2 s a)))
+      (BackAnswer.taken (read_in_lem 2 s a) (none_remarked s (records_of (sheet_of s)) n) (omega (arith, back_length s a n)) (omega (arith, back_length s a n)))
 
   back_looked : (b : Bool) → bare s (records_of (sheet_of s)) ≡ b → BackAnswer s room (back s room)
   back_looked true n = back_fits n (ltb room (length (sheet_as 1 s (records_of (sheet_of s))))) refl
@@ -139,4 +136,4 @@ back_refuses s room k (BackAnswer.short {rs} p n l) =
     let i = in_read 2 s p in
     let b : bare s (records_of (sheet_of s)) ≡ true = ap (bare s) i.1 ∙ no_remark s rs n in
     back_fitting s room i.0 b
-    ∙ short room (sheet_as 1 s (records_of (sheet_of s))) (omega (arith, back_length s i.0 b, count_read 2 s i.0, ap (λ (x : List Record). length x) i.1))
+    ∙ short room (sheet_as 1 s (records_of (sheet_of s))) (omega (arith, back_length s i.0 b, ap (λ (x : List Record). length x) i.1))

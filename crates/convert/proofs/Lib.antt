@@ -1,4 +1,5 @@
 pub mod Computed
+pub mod Next
 pub mod Paired
 pub mod Sheets
 pub mod Texts

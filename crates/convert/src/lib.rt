@@ -6,6 +6,7 @@ ghost use Rattle.refusal.specs.Numbered.{numbered};
 ghost use Rattle.octets.specs.Room.{outcome_of, written};
 ghost use Rattle.convert.specs.Convert.{forward, back};
 
+use distinct::Index;
 use refusal::Refusal;
 
 // A sheet of version 1 in version 2, in lent room.
@@ -14,13 +15,13 @@ pub fn forward(s: &[u8], out: &mut [u8]) -> Result<usize, Refusal>
     ensures value { numbered result ≡ outcome_of (forward s.now (length out.old)) }
     ensures out_after { out.new ≡ written (forward s.now (length out.old)) out.old }
 {
-    sheet_version::check(s, 1)?;
-    let count = sheet_record::number(s, 5, 2) as usize;
-    let len = s.len() + count;
+    let mut room = Index::blank();
+    let sheet = sheet_version::index(s, 1, &mut room)?;
+    let len = s.len() + sheet.count();
     if 65536 < len {
         return Err(Refusal::SheetTooLong);
     }
-    convert_records::put_sheet(s, count, 2, len, out)
+    convert_records::put_sheet(&sheet, 2, len, out)
 }
 
 // A sheet of version 2 whose remarks are empty in version 1, in lent room.
@@ -29,10 +30,10 @@ pub fn back(s: &[u8], out: &mut [u8]) -> Result<usize, Refusal>
     ensures value { numbered result ≡ outcome_of (back s.now (length out.old)) }
     ensures out_after { out.new ≡ written (back s.now (length out.old)) out.old }
 {
-    sheet_version::check(s, 2)?;
-    let count = sheet_record::number(s, 5, 2) as usize;
-    if convert_records::has_remark(s, count) {
+    let mut room = Index::blank();
+    let sheet = sheet_version::index(s, 2, &mut room)?;
+    if convert_records::has_remark(&sheet) {
         return Err(Refusal::HasRemark);
     }
-    convert_records::put_sheet(s, count, 1, s.len() - count, out)
+    convert_records::put_sheet(&sheet, 1, s.len() - sheet.count(), out)
 }

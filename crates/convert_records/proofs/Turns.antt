@@ -118,12 +118,13 @@ module _ {w : ℕ} {s : List ℕ} {rs : List Record} {room : List ℕ} {i at : �
         }
 
 -- the remark of a record that lies in the sheet is what follows its values, but for the length byte
+pub remark_len : (end n : ℕ) → (remark_at end (some n)).len ≡ n - 1
+remark_len end zero = omega arith
+remark_len end (suc n) = simp unary_clauses
+
 pub remark_behind : (s : List ℕ) (r : Record) (n : ℕ) → Inside s (Ok r) → Tailed s (values_end r) n → (remark_in s r).len ≡ n - 1
-remark_behind s r n w t = ap (λ (o : Option ℕ). (remark_at (values_end r) o).len) w.tailed ∙ go w.tail ∙ ap (λ (k : ℕ). k - 1) (sym (whole_is s (values_end r) w n t))
-  where
-    go : (k : ℕ) → (remark_at (values_end r) (some k)).len ≡ k - 1
-    go zero = omega arith
-    go (suc k) = simp unary_clauses
+remark_behind s r n w t =
+    ap (λ (o : Option ℕ). (remark_at (values_end r) o).len) w.tailed ∙ remark_len (values_end r) w.tail ∙ ap (λ (k : ℕ). k - 1) (sym (whole_is s (values_end r) w n t))
 
 -- a record that has a remark, and one more that has none
 pub bare_found : (s : List ℕ) (rs : List Record) (i : ℕ) (r : Record) → slice_get rs i ≡ Some r → eqb (remark_in s r).len 0 ≡ false → bare s rs ≡ false
