@@ -41,6 +41,7 @@ fn put_lines(sheet: &Sheet, list: &[u8], out: &mut [u8]) -> Result<usize, Refusa
 }
 
 // The whole listing of a list under a sheet, in lent room.
+#[tactic(auto, using(crate::proofs::Begins::short_line))]
 pub fn listing(sheet: &[u8], list: &[u8], out: &mut [u8]) -> Result<usize, Refusal>
     ensures value { numbered result ≡ outcome_of (fitting (length out.old) (listing_by chosen sheet.now list.now)) }
     ensures out_after { out.new ≡ written (fitting (length out.old) (listing_by chosen sheet.now list.now)) out.old }
