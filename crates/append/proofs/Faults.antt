@@ -2,18 +2,20 @@
 use mathlib.Core.Bool.{Bool, true, false, cond}
 use mathlib.Core.List.{List}
 use mathlib.Core.Path.{◌≡◌, refl, sym, ap, ap₂, ◌∙◌}
-use Prim.Native.Nat.{ℕ, zero, suc, ◌+◌, ◌≤◌}
+use Prim.Native.Nat.{ℕ, zero, suc, ◌+◌, ◌≤◌, ◌<◌}
 use native.Mathlib.Omega.{arith}
 use borrow.Author.Tests.{ltb-false}
 use lib.Dec.{ltb}
 use lib.ListN.{length}
-use lib.Seq.{length-take-le}
 use Rattle.kind.specs.Kind.{kind_of, is_known}
 use Rattle.kind.proofs.Byte.{known_byte}
+use Rattle.refusal.specs.declared.Refusal.{Refusal}
+use Rattle.refusal.specs.Numbered.{number_for}
+use Rattle.refusal.proofs.Apart.{never_zero}
+use Rattle.octets.specs.Bytes.{number_at}
 use Rattle.octets.specs.Room.{Text, refused, text}
 use Rattle.name.specs.Spelling.{Reading, wrong, bytes, reading}
 use Rattle.name.specs.Name.{is_length, judged, name_of}
-use Rattle.name_reader.proofs.Answers.{read_done, read_refused}
 use Rattle.sheet_record.specs.declared.Record.{Record}
 use Rattle.sheet.specs.Sheet.{Sheet, records, sheet_of, number_of, records_of, seen}
 use Rattle.sheet_version.specs.Version.{sheet_in}
@@ -129,7 +131,36 @@ module _ (s : List ℕ) (rs : List Record) (name : List ℕ) (kind first second 
       → add_named s rs name kind first second room ≡ text (grown s (new_record name kind first second))
   named_taken e = by_none _ _ (sym (e ∙ named_fault))
 
--- what the proofs of `add_named` and `add` go by
-pub ruleset named_laws = (few_read, most_read, longer, known_byte)
+-- what is known once the sheet and the name are read: whether the kind is known, whether the name is there, and its length
+pub record Known (s spelling : List ℕ) (kind : ℕ) (name : List ℕ) (known there : Bool) (len : ℕ) : Type 0 where
+  pub accepted : number_of (sheet_in 2 s) ≡ 0
+  pub name_is : name_of spelling ≡ text name
+  pub known_is : known ≡ is_known (kind_of kind)
+  pub there_is : there ≡ seen s (records_of (sheet_of s)) name
+  pub len_is : len ≡ length name
+  pub short : len ≤ 40
 
-pub ruleset add_laws = (own_number, wrong_name, under_name, read_done, read_refused, length-take-le)
+module _ {s spelling : List ℕ} {kind : ℕ} {name : List ℕ} {known there : Bool} {len : ℕ} (x : Known s spelling kind name known there len) where
+  pub least : 7 ≤ length s
+  least = omega (arith, few_read 2 s x.accepted)
+
+module _ {s spelling : List ℕ} {kind : ℕ} {name : List ℕ} {known there : Bool} {len : ℕ} (x : Known s spelling kind name known there len) (first second room : ℕ) where
+  fault_is : add_fault known there (length s + len + 19) room ≡ add_fault (is_known (kind_of kind)) there (length s + length name + 19) room
+  fault_is = ap₂ (λ (b : Bool) (n : ℕ). add_fault b there (length s + n + 19) room) x.known_is x.len_is
+
+  pub state_refused : (r : Refusal) → number_for r ≡ add_fault known there (length s + len + 19) room → added s spelling kind first second room ≡ refused (number_for r)
+  state_refused r e =
+      under_name s spelling kind first second room x.accepted name x.name_is
+      ∙ named_refused s _ name kind first second room there x.there_is (least x) _ (e ∙ fault_is) (λ z. let h = never_zero r in omega arith)
+
+  pub state_taken : 0 ≡ add_fault known there (length s + len + 19) room → added s spelling kind first second room ≡ text (grown s (new_record name kind first second))
+  state_taken e =
+      under_name s spelling kind first second room x.accepted name x.name_is ∙ named_taken s _ name kind first second room there x.there_is (least x) (e ∙ fault_is)
+
+  pub state_fits : 0 ≡ add_fault known there (length s + len + 19) room → (7 ≤ length s) × (number_at 2 s 5 < 65536) × (length name < 256) × (length s + (length name + 19) ≤ room)
+  state_fits e =
+      let f = free known there (length s + len + 19) room (sym e) in
+      (least x, omega (arith, few_read 2 s x.accepted, most_read 2 s x.accepted), omega (arith, x.short, x.len_is), omega (arith, f.fits, x.len_is))
+
+-- what the proof of `add` goes by
+pub ruleset add_laws = (own_number, wrong_name, few_read, most_read, known_byte)

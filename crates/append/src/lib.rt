@@ -59,7 +59,12 @@ pub fn add(
     let sheet = sheet_version::index(s, 2, &mut room)?;
     let name = name_reader::read(spelled)?;
     let len = s.len() + name.len() + 19;
-    check(is_known(kind), sheet_search::has(&sheet, &name), len, out.len())?;
+    check(
+        is_known(kind),
+        sheet_search::has(&sheet, &name),
+        len,
+        out.len(),
+    )?;
     append_record::put_grown(s, &name, kind as u8, first, second, out);
     Ok(len)
 }
