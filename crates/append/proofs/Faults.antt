@@ -140,27 +140,29 @@ pub record Known (s spelling : List ℕ) (kind : ℕ) (name : List ℕ) (known t
   pub len_is : len ≡ length name
   pub short : len ≤ 40
 
-module _ {s spelling : List ℕ} {kind : ℕ} {name : List ℕ} {known there : Bool} {len : ℕ} (x : Known s spelling kind name known there len) where
-  pub least : 7 ≤ length s
+module _ {s spelling : List ℕ} {kind : ℕ} {name : List ℕ} {known there : Bool} {len : ℕ} (x : Known s spelling kind name known there len) (first second room : ℕ) where
+  least : 7 ≤ length s
   least = omega (arith, few_read 2 s x.accepted)
 
-module _ {s spelling : List ℕ} {kind : ℕ} {name : List ℕ} {known there : Bool} {len : ℕ} (x : Known s spelling kind name known there len) (first second room : ℕ) where
   fault_is : add_fault known there (length s + len + 19) room ≡ add_fault (is_known (kind_of kind)) there (length s + length name + 19) room
   fault_is = ap₂ (λ (b : Bool) (n : ℕ). add_fault b there (length s + n + 19) room) x.known_is x.len_is
 
   pub state_refused : (r : Refusal) → number_for r ≡ add_fault known there (length s + len + 19) room → added s spelling kind first second room ≡ refused (number_for r)
   state_refused r e =
       under_name s spelling kind first second room x.accepted name x.name_is
-      ∙ named_refused s _ name kind first second room there x.there_is (least x) _ (e ∙ fault_is) (λ z. let h = never_zero r in omega arith)
+      ∙ named_refused s _ name kind first second room there x.there_is least _ (e ∙ fault_is) (λ z. let h = never_zero r in omega arith)
 
-  pub state_taken : 0 ≡ add_fault known there (length s + len + 19) room → added s spelling kind first second room ≡ text (grown s (new_record name kind first second))
-  state_taken e =
-      under_name s spelling kind first second room x.accepted name x.name_is ∙ named_taken s _ name kind first second room there x.there_is (least x) (e ∙ fault_is)
+  module _ (e : 0 ≡ add_fault known there (length s + len + 19) room) where
+    pub state_taken : added s spelling kind first second room ≡ text (grown s (new_record name kind first second))
+    state_taken = under_name s spelling kind first second room x.accepted name x.name_is ∙ named_taken s _ name kind first second room there x.there_is least (e ∙ fault_is)
 
-  pub state_fits : 0 ≡ add_fault known there (length s + len + 19) room → (7 ≤ length s) × (number_at 2 s 5 < 65536) × (length name < 256) × (length s + (length name + 19) ≤ room)
-  state_fits e =
-      let f = free known there (length s + len + 19) room (sym e) in
-      (least x, omega (arith, few_read 2 s x.accepted, most_read 2 s x.accepted), omega (arith, x.short, x.len_is), omega (arith, f.fits, x.len_is))
+    pub state_length : length s + len + 19 ≡ length (grown s (new_record name kind first second))
+    state_length = omega (arith, x.len_is, longer s name kind first second least)
+
+    pub state_fits : (7 ≤ length s) × (number_at 2 s 5 < 65536) × (length name < 256) × (length s + (length name + 19) ≤ room)
+    state_fits =
+        let f = free known there (length s + len + 19) room (sym e) in
+        (least, omega (arith, few_read 2 s x.accepted, most_read 2 s x.accepted), omega (arith, x.short, x.len_is), omega (arith, f.fits, x.len_is))
 
 -- what the proof of `add` goes by
 pub ruleset add_laws = (own_number, wrong_name, few_read, most_read, known_byte)
