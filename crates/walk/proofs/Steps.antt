@@ -1,16 +1,19 @@
 -- What a walk's beginning and a step give, case by case.
-use Rattle.std.specs.Prelude.{Result}
-use mathlib.Core.Bool.{Bool, true, false, cond}
+use Rattle.std.specs.Prelude.{Err}
+use mathlib.Core.Bool.{Bool, true, cond}
 use mathlib.Core.List.{List, [], ◌∷◌}
 use mathlib.Core.Option.{Option, none, some}
 use mathlib.Core.Path.{◌≡◌, refl, sym, ap, ◌∙◌}
-use Prim.Native.Nat.{ℕ, ◌≤◌, ◌<◌}
+use Prim.Native.Nat.{ℕ, ◌+◌, ◌-◌, ◌≤◌, ◌<◌}
 use native.Mathlib.Omega.{arith}
 use borrow.Author.Tests.{lt-ltb, le-ltb, le-leb}
-use lib.Dec.{leb}
 use lib.IntN.{ℤ}
-use lib.ListN.{length}
+use lib.ListN.{length, take, drop, length-drop}
+use lib.Seq.{length-take-le}
 use Rattle.sheet_search.specs.Find.{Lookup}
+use Rattle.refusal.specs.declared.Refusal.{Refusal}
+use Rattle.refusal.specs.Numbered.{number_for}
+use Rattle.refusal.proofs.Apart.{never_zero}
 use Rattle.octets.specs.Bytes.{number_at}
 use Rattle.octets.specs.Room.{Text, refused, text, fitting, written, outcome_of}
 use Rattle.octets.proofs.Told.{fits}
@@ -28,10 +31,10 @@ use Rattle.sheet_search.proofs.Locate.{Fit}
 use Rattle.sheet_walk.specs.Records.{record_in, record_by, record_of}
 use Rattle.line.specs.Line.{line_of, rest_by, value_rest, refusal_rest}
 use Rattle.walk.specs.Walk.{begun_by, line_of_record, line_at, next_line, step_by, stepped, step_of}
-use Rattle.walk.specs.Parts.{Named, staying, advanced}
+use Rattle.name.specs.Name.{is_length}
+use Rattle.walk.specs.Parts.{Named, advanced}
 use Rattle.walk.specs.declared.Walk.{Walk}
 use Rattle.walk.specs.declared.Begun.{Begun}
-use Rattle.walk.specs.declared.Step.{Step}
 
 abbrev begun : ℕ → ℕ → Begun
 begun number count = record { number = number; walk = record { given = 0; count = count } }
@@ -60,6 +63,13 @@ module _ (c : Choices) (s : List ℕ) (w : Walk) (room : ℕ) where
       go (Sheet.refused n) h = ap refused (sym h)
       go (records rs) h = absurd (z h)
 
+  -- a refused sheet's own number, and the room as it was
+  pub own_value : (r : Refusal) → number_for r ≡ number_of (sheet_of s) → Err (number_for r) ≡ outcome_of (stepped c s w room)
+  own_value r e = sym (ap outcome_of (step_own (number_for r) e (λ z. omega (arith, z, never_zero r))))
+
+  pub own_room : (r : Refusal) (out : List ℕ) → number_for r ≡ number_of (sheet_of s) → out ≡ written (stepped c s w room) out
+  own_room r out e = sym (ap (λ (t : Text). written t out) (step_own (number_for r) e (λ z. omega (arith, z, never_zero r))))
+
   module _ (a : Accepted s) where
     step_is : stepped c s w room ≡ fitting room (next_line c s (records_of (sheet_of s)) w)
     unfolding stepped
@@ -76,16 +86,11 @@ module _ (c : Choices) (s : List ℕ) (w : Walk) (room : ℕ) where
         ∙ ap (λ (b : Bool). fitting room (cond b (line_at c s (record_in (records_of (sheet_of s)) w.given)) [])) (lt-ltb w.given w.count h)
         ∙ ap (λ (g : Lookup). fitting room (line_at c s g)) (sym (e ∙ ap (λ (t : Sheet). record_by t w.given) (accepted_records s a)))
 
--- what is told of a step, and the room afterwards
-abbrev pub StepTells : Walk → Text → Step → List ℕ → List ℕ → Type 0
-StepTells w t r room last = (r ≡ step_of w t) × (last ≡ written t room)
-
-module _ (w : Walk) (t : Text) (r : Step) (room : List ℕ) where
-  pub tells_stay : (k : ℕ) → r ≡ staying w k → t ≡ refused k → StepTells w t r room room
-  tells_stay k e h = (e ∙ sym (ap (step_of w) h), sym (ap (λ (x : Text). written x room) h))
-
-  pub tells_end : r ≡ staying w 0 → t ≡ text [] → StepTells w t r room room
-  tells_end e h = (e ∙ sym (ap (step_of w) h), sym (ap (λ (x : Text). written x room) h))
+-- what is told of a step, by what became of its text
+pub told : (w : Walk) (t : Text) → step_of w t ≡ advanced w (outcome_of t)
+told w (refused k) = refl
+told w (text []) = refl
+told w (text (b ∷ t)) = refl
 
 -- a line has bytes
 rest_some : (number letter : ℕ) (l : Option Logs) (v : Option ℤ) → length (rest_by number letter l v) ≡ 0 → ⊥
@@ -101,24 +106,12 @@ line_some (b ∷ name) h e = omega arith
 pub record_some : (c : Choices) (s : List ℕ) (r : Record) → length (line_of_record c s r) ≡ 0 → ⊥
 record_some c s r = line_some (spelled (name_in s r)) (answer_by c r.kind r.first r.second)
 
--- so that it advances the walk where it fits
-advances : (w : Walk) (room : ℕ) (t : List ℕ) → (length t ≡ 0 → ⊥) → advanced w (outcome_of (fitting room t)) ≡ step_of w (fitting room t)
-advances w room [] z = absurd (z refl)
-advances w room (b ∷ t) z = go (leb (length (b ∷ t)) room)
-  where
-    go : (f : Bool) → advanced w (outcome_of (cond f (text (b ∷ t)) (refused 14))) ≡ step_of w (cond f (text (b ∷ t)) (refused 14))
-    go true = refl
-    go false = refl
+-- the part that is lent of a record is its name
+pub name_is : (s : List ℕ) (r : Record) → take (r.start + r.len - r.start) (drop r.start s) ≡ name_in s r
+name_is s r = let e : r.start + r.len - r.start ≡ r.len = omega arith in ap (λ (n : ℕ). take n (drop r.start s)) e
 
--- a step that put the line of a record, or had no room for it
-module _ (c : Choices) (s : List ℕ) (w : Walk) (r : Record) (o : Result ℕ ℕ) (x : Step) (room last : List ℕ) where
-  pub tells_line :
-      stepped c s w (length room) ≡ fitting (length room) (line_of_record c s r)
-      → o ≡ outcome_of (fitting (length room) (line_of_record c s r))
-      → last ≡ written (fitting (length room) (line_of_record c s r)) room
-      → x ≡ advanced w o
-      → StepTells w (stepped c s w (length room)) x room last
-  tells_line e p l a = (
-    a ∙ ap (advanced w) p ∙ advances w (length room) (line_of_record c s r) (record_some c s r) ∙ sym (ap (step_of w) e),
-    l ∙ sym (ap (λ (t : Text). written t room) e),
-  )
+pub name_sized : (s : List ℕ) (r : Record) → Named s r → is_length (length (take (r.start + r.len - r.start) (drop r.start s))) ≡ true
+name_sized s r h =
+    ap (λ (x : List ℕ). is_length (length x)) (name_is s r)
+    ∙ ap is_length (length-take-le r.len (drop r.start s) (omega (arith, length-drop r.start s, h.inside)))
+    ∙ h.sized

@@ -1,5 +1,5 @@
 -- Request 7: a walk over the records of a sheet, a line a step.
-use Rattle.std.specs.Prelude.{cond, List, [], ◌∷◌, ℕ, ◌+◌, ltb, length, Ok, Err, Result}
+use Rattle.std.specs.Prelude.{cond, List, [], ◌∷◌, ℕ, ◌+◌, ltb, length, Ok, Err}
 use Rattle.sheet_search.specs.Find.{Lookup}
 use Rattle.octets.specs.Room.{Text, refused, text, fitting}
 use Rattle.name.specs.Spelling.{spelled}

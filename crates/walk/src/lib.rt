@@ -39,6 +39,7 @@ pub struct Step {
 }
 
 // Begins a walk over the records that a sheet has now.
+#[tactic(auto, using(crate::proofs::Steps::begun_refused, crate::proofs::Steps::begun_counted))]
 pub fn begin(sheet: &[u8]) -> Begun
     ensures { result ≡ begun_by (sheet_of sheet.now) }
 {
@@ -58,6 +59,7 @@ pub fn begin(sheet: &[u8]) -> Begun
 }
 
 // The listing line of a record of a sheet, in lent room.
+#[tactic(auto, using(crate::proofs::Steps::name_is, crate::proofs::Steps::name_sized))]
 fn put_record(sheet: &[u8], r: Record, out: &mut [u8]) -> Result<usize, Refusal>
     requires { Named sheet.now r }
     ensures value { numbered result ≡ outcome_of (fitting (length out.old) (line_of_record chosen sheet.now r)) }
@@ -69,6 +71,7 @@ fn put_record(sheet: &[u8], r: Record, out: &mut [u8]) -> Result<usize, Refusal>
 }
 
 // The next record's listing line, in lent room; nothing, of length 0, after the walk's last record or the sheet's.
+#[tactic(auto, using(crate::proofs::Steps::own_value, crate::proofs::Steps::own_room))]
 fn put_next(sheet: &[u8], walk: Walk, out: &mut [u8]) -> Result<usize, Refusal>
     ensures value { numbered result ≡ outcome_of (stepped chosen sheet.now walk (length out.old)) }
     ensures out_after { out.new ≡ written (stepped chosen sheet.now walk (length out.old)) out.old }
@@ -86,7 +89,7 @@ fn put_next(sheet: &[u8], walk: Walk, out: &mut [u8]) -> Result<usize, Refusal>
 }
 
 // The step by what became of the line: the walk goes on where one was put.
-fn step(walk: Walk, put: Result<usize, Refusal>) -> Step
+fn step_after(walk: Walk, put: Result<usize, Refusal>) -> Step
     requires { IfOk put (λ n. 0 < n → walk.given < walk.count) }
     ensures { result ≡ advanced walk (numbered put) }
 {
@@ -113,9 +116,10 @@ fn step(walk: Walk, put: Result<usize, Refusal>) -> Step
 }
 
 // Gives the next record's listing line, in lent room.
+#[tactic(auto, using(crate::proofs::Steps::told))]
 pub fn take_step(sheet: &[u8], walk: Walk, out: &mut [u8]) -> Step
     ensures value { result ≡ step_of walk (stepped chosen sheet.now walk (length out.old)) }
     ensures out_after { out.new ≡ written (stepped chosen sheet.now walk (length out.old)) out.old }
 {
-    step(walk, put_next(sheet, walk, out))
+    step_after(walk, put_next(sheet, walk, out))
 }
