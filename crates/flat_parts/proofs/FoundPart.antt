@@ -7,6 +7,7 @@ use native.Mathlib.Omega.{arith}
 use lib.ListN.{length}
 use Rattle.octets.specs.Bytes.{part}
 use Rattle.sheet_search.specs.Find.{Lookup, handed_back, Inside}
+use Rattle.sheet_remark.specs.declared.Part.{Part}
 use Rattle.sheet_remark.specs.Remark.{remark_bytes, RemarkInside}
 use Rattle.flat_parts.specs.Flat.{flat_found, flat_remark}
 

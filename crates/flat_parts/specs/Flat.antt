@@ -3,7 +3,6 @@ use Rattle.std.specs.Prelude.{ℕ, pos, Result, Ok, Err}
 use Rattle.std.specs.Float.{binary64}
 use Rattle.std.specs.Float.Ieee.{of_int}
 use Rattle.sheet_search.specs.Find.{Lookup}
-use Rattle.sheet_record.specs.declared.Record.{Record}
 use Rattle.sheet_remark.specs.declared.Part.{Part}
 use Rattle.mark.specs.declared.Point.{Point}
 use Rattle.flat_parts.specs.declared.CRecord.{CRecord}

@@ -61,6 +61,7 @@ pub fn flatten_check(checked: Result<(), Refusal>) -> u32
 }
 
 // A text's length or refusal as C takes it.
+#[tactic(auto, unfolding(crate::specs::Flat::flat_text))]
 pub fn flatten_text(text: Result<usize, Refusal>) -> CText
     ensures { result ≡ flat_text (numbered text) }
 {
@@ -74,6 +75,7 @@ pub fn flatten_text(text: Result<usize, Refusal>) -> CText
 }
 
 // A mark as C takes it.
+#[tactic(auto, unfolding(crate::specs::Flat::flat_mark))]
 pub fn flatten_mark(mark: Result<Point, Refusal>) -> CMark
     ensures { result ≡ flat_mark (numbered mark) }
 {
@@ -96,6 +98,7 @@ pub fn flatten_mark(mark: Result<Point, Refusal>) -> CMark
 }
 
 // A found record as C takes it.
+#[tactic(auto, unfolding(crate::specs::Flat::flat_found))]
 pub fn flatten_found(found: Result<Record, Refusal>) -> CRecord
     ensures { result ≡ flat_found (numbered found) }
 {
@@ -120,6 +123,7 @@ pub fn flatten_found(found: Result<Record, Refusal>) -> CRecord
 }
 
 // A remark as C takes it.
+#[tactic(auto, unfolding(crate::specs::Flat::flat_remark))]
 pub fn flatten_remark(remark: Result<Part, Refusal>) -> CPart
     ensures { result ≡ flat_remark (numbered remark) }
 {

@@ -1,13 +1,9 @@
--- `flat_parts::flatten_mark` flattens each case.
-use mathlib.Core.Path.{sym, ap}
+-- `flat_parts::flatten_mark`: a blank is at the origin.
+use Rattle.std.proofs.Common.{rules}
 use lib.Ieee.{of_bits, of_int}
 use Rattle.flat_parts.specs.Flat.{flat_mark}
 use Rattle.flat_parts.proofs.flatten_mark.Goals as goal
 
-pub returns-in-At : goal.returns-in-At
-unfolding flat_mark
-returns-in-At c = sym (ap flat_mark c.in-At.is)
-
-pub returns-in-Blank : goal.returns-in-Blank
+pub returns-in-Err : goal.returns-in-Err
 unfolding flat_mark of_bits of_int
-returns-in-Blank c = sym (ap flat_mark c.in-Blank.is)
+returns-in-Err c = search rules
