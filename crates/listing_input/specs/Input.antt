@@ -1,10 +1,6 @@
 -- What the listing program keeps account of an input. The system tells how many bytes a read gave, not which.
-use Rattle.std.specs.Prelude.{◌≡◌, ℕ, ◌≤◌, List, length, take}
+use Rattle.std.specs.Prelude.{◌≡◌, ◌≤◌}
 use Rattle.listing_input.specs.declared.Input.{Input}
-
--- n bytes of a room, which has so many
-abbrev pub IsPrefixLen : ℕ → List ℕ → Type 0
-IsPrefixLen n room = (n ≤ length room) × (n ≡ length (take n room))
 
 -- an input was read until a read gave nothing, unless it is longer than a sheet or a list may be
 abbrev pub ToEnd : Input → Type 0
