@@ -1,73 +1,54 @@
-// The cases of spellings and names: each takes its words from a place on and gives the place behind its line.
+// The cases of spellings and names: each takes its words, and the label that ends its line.
 #![tactic(auto)]
 
-ghost use Rattle.std.specs.Prelude.{◌≤◌};
+ghost use Rattle.std.specs.Prelude.{length, ◌≤◌};
 
-use octets::Outcome;
-use vector_answers::{between, field, outcome, say, start, values};
-use vector_words::{next_word, room};
+use vector_answers::{between, outcome, refused, say, values};
+use vector_words::{Room, Words};
 
 // Writes the label.
-pub fn label(rt: &impl Print, text: &[u8], from: usize) -> usize
-    ensures { from ≤ result }
+pub fn label(rt: &impl Print, words: &mut Words<'_>)
+    ensures { length words.new ≤ length words.old }
 {
-    let mut room = room();
-    let label = next_word(text, from, b'\n', &mut room);
-    let len = label.len;
-    say(rt, &room[0..len]);
+    let mut label = Room::new();
+    words.word(b'\n', &mut label);
+    say(rt, &label);
     say(rt, b":");
-    label.end
 }
 
-// The name in an array, and its spelling.
-fn shows(rt: &impl Print, bytes: [u8; 40], n: usize) {
-    if n <= 40 {
-        let name = &bytes[0..n];
-        values(rt, name);
-        let mut line = [0u8; 192];
-        match name_writer::spell(name, &mut line) {
-            Outcome::Refused(k) => field(rt, b" refused", k as u64),
-            Outcome::Done(k) => {
-                say(rt, b", written ");
-                start(rt, line, k);
-            }
+// A name, and its spelling.
+fn shows(rt: &impl Print, name: &[u8]) {
+    values(rt, name);
+    match name_writer::spelling(name) {
+        Ok(spelling) => {
+            say(rt, b", written ");
+            say(rt, &spelling);
         }
+        Err(refusal) => refused(rt, refusal.number()),
     }
 }
 
-pub fn read(rt: &impl Print, text: &[u8], from: usize) -> usize
-    ensures { from ≤ result }
+pub fn read(rt: &impl Print, words: &mut Words<'_>)
+    ensures { length words.new ≤ length words.old }
 {
-    let mut room = room();
-    let spelling = next_word(text, from, b' ', &mut room);
-    let end = label(rt, text, spelling.end);
-    let len = spelling.len;
-    let name = name_reader::read(&room[0..len]);
-    let bytes = name.bytes;
-    let outcome = name.outcome;
-    match outcome {
-        Outcome::Refused(k) => field(rt, b" refused", k as u64),
-        Outcome::Done(n) => shows(rt, bytes, n),
+    let mut spelling = Room::new();
+    words.word(b' ', &mut spelling);
+    label(rt, words);
+    match name_reader::read(&spelling) {
+        Ok(name) => shows(rt, &name),
+        Err(refusal) => refused(rt, refusal.number()),
     }
-    end
 }
 
-// A name written into lent room.
-fn writes(rt: &impl Print, name: &[u8], room: &mut [u8]) {
-    outcome(rt, name_writer::spell(name, room));
-    between(rt, room);
-}
-
-pub fn write(rt: &impl Print, text: &[u8], from: usize) -> usize
-    ensures { from ≤ result }
+// A name written into lent room, and the whole room.
+pub fn write(rt: &impl Print, words: &mut Words<'_>)
+    ensures { length words.new ≤ length words.old }
 {
-    let mut out = room();
-    let mut room = room();
-    let lent = next_word(text, from, b' ', &mut out);
-    let name = next_word(text, lent.end, b' ', &mut room);
-    let end = label(rt, text, name.end);
-    let n = lent.len;
-    let len = name.len;
-    writes(rt, &room[0..len], &mut out[0..n]);
-    end
+    let mut room = Room::new();
+    let mut name = Room::new();
+    words.word(b' ', &mut room);
+    words.word(b' ', &mut name);
+    label(rt, words);
+    outcome(rt, name_writer::spell(&name, &mut room));
+    between(rt, &room);
 }
