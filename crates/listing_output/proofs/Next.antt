@@ -1,7 +1,7 @@
 -- Bytes that are the next of a listing.
 -- Assumes nothing.
 use mathlib.Core.List.{List}
-use mathlib.Core.Path.{◌≡◌, sym, ap, ◌∙◌}
+use mathlib.Core.Path.{◌≡◌, sym, ap, ◌∙◌, subst}
 use Prim.Native.Nat.{ℕ, ◌+◌, ◌-◌, ◌≤◌}
 use native.Mathlib.Omega.{arith}
 use lib.ListN.{length, take, drop, length-take, length-drop}
@@ -16,9 +16,8 @@ next_whole listing bytes e = e ∙ sym (take_all (length bytes) listing (omega (
 pub rest_size : (bytes : List ℕ) (at : ℕ) → length (part bytes at (length bytes - at)) ≡ length bytes - at
 rest_size bytes at = length-take-le (length bytes - at) (drop at bytes) (omega (arith, length-drop at bytes))
 
--- what is left of them, where some are written
-pub next_rest : (listing bytes : List ℕ) (done at : ℕ) → Next listing done bytes → at ≤ length bytes → Next listing (done + at) (part bytes at (length bytes - at))
-next_rest listing bytes done at e h =
+next_at : (listing bytes : List ℕ) (done at : ℕ) → Next listing done bytes → at ≤ length bytes → Next listing (done + at) (part bytes at (length bytes - at))
+next_at listing bytes done at e h =
     let l : List ℕ = drop done listing in
     let k : ℕ = length bytes - at in
     let i : at ≤ length l = omega (arith, ap length e, length-take (length bytes) l) in
@@ -28,3 +27,10 @@ next_rest listing bytes done at e h =
     ∙ drop_at (take at l) (take k (drop at l)) at (length-take-le at l i) in
     let r : part bytes at k ≡ drop at bytes = take_all k (drop at bytes) (omega (arith, length-drop at bytes)) in
     r ∙ d ∙ ap (take k) (drop-drop at done listing) ∙ ap (part listing (done + at)) (sym (rest_size bytes at))
+
+-- what is left of them, where some are written
+pub next_rest : (listing bytes : List ℕ) (done written : ℕ) → Next listing done bytes → done ≤ written → written ≤ done + length bytes → Next listing written (part bytes (written - done) (length bytes - (written - done)))
+next_rest listing bytes done written e h k =
+    let at : ℕ = written - done in
+    let there : done + at ≡ written = omega arith in
+    subst (λ (n : ℕ). Next listing n (part bytes at (length bytes - at))) there (next_at listing bytes done at e (omega arith))
