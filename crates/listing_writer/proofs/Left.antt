@@ -16,8 +16,7 @@ use Rattle.report_refusal.specs.Refusal.{refusal_of}
 use Rattle.report.specs.Listing.{lines_by, listing_by}
 use Rattle.report.specs.Steps.{Part}
 use Rattle.report_refusal.proofs.Cases.{either}
-use Rattle.name_list.proofs.Lines.{none_left}
-use Rattle.report.proofs.Output.{lines_append}
+use Rattle.report.proofs.Output.{lines_append, none_left}
 use Rattle.listing_output.specs.Output.{Next}
 
 not_refused : (number : ℕ) (ls : List ℕ) (accepted long : Bool) → either number [] accepted long ≡ [] → (either number ls accepted long ≡ ls) × (long ≡ false)
