@@ -76,10 +76,10 @@ pub extern "C" fn eas_evaluate(kind: u32, first: u64, second: u64) -> CAnswer
     ensures value { result ≡ flat (answer_by chosen kind first second) }
     ensures flat_answer { IsFlatAnswer kind first second result }
 {
-    flat::flatten(match u8::try_from(kind) {
-        Ok(byte) => evaluate::evaluate(byte, first, second),
-        Err(_) => Answer::Refused(Refusal::UnknownKind),
-    })
+    match u8::try_from(kind) {
+        Ok(byte) => flat::flatten(evaluate::evaluate(byte, first, second)),
+        Err(_) => flat::flatten(Answer::Refused(Refusal::UnknownKind)),
+    }
 }
 
 // The plot mark of a spelled name. That both doubles are exact is `PlotExact` (c_laws/specs/Plot).
