@@ -50,14 +50,14 @@ def printed(file):
 
 
 def laid_out(numbers, indent):
-    """an array as rt fmt has it: on one line where its numbers take 60 characters or fewer, else in lines of at most 100 where each
+    """an array as rt fmt has it: on one line where its numbers take 60 characters or fewer, else in lines of at most 99 where each
     number has 10 at the most, else a number a line"""
     line = f"[{', '.join(map(str, numbers))}]"
     if len(line) - 2 <= 60:
         return line
     lines = [""]
     for number in numbers:
-        if lines[-1] and (max(len(str(n)) for n in numbers) > 10 or len(f"{indent}    {lines[-1]} {number},") > 100):
+        if lines[-1] and (max(len(str(n)) for n in numbers) > 10 or len(f"{indent}    {lines[-1]} {number},") > 99):
             lines.append("")
         lines[-1] += f" {number}," if lines[-1] else f"{number},"
     return "[\n" + "".join(f"{indent}    {line}\n" for line in lines) + f"{indent}]"
