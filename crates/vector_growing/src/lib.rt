@@ -1,271 +1,189 @@
-// The cases of walks and adds: each takes its words from a place on and gives the place behind its line.
+// The cases of walks and adds: each takes its words, and the label that ends its line.
 #![tactic(auto)]
 
-ghost use Rattle.std.specs.Prelude.{◌<◌, ◌≤◌, length};
+ghost use Rattle.std.specs.Prelude.{length, ◌≤◌};
 
-use octets::Outcome;
+use refusal::Refusal;
 use std::rt::Files;
-use vector_answers::{between, field, outcome, whole};
+use vector_answers::{between, column, outcome, refused, say, whole};
 use vector_names::label;
-use vector_words::{next_sheet, next_word, room, room_of};
+use vector_words::{Room, Words, dots};
 use walk::{Begun, Walk};
 
-// A number of 32 bits.
-fn short(n: u64) -> u32 {
-    (n % 4294967296) as u32
-}
-
-// The first bytes of a room, or all where it has fewer.
-fn start_of(room: &[u8], n: usize) -> &[u8] {
-    if room.len() < n {
-        return room;
-    }
-    &room[0..n]
+// The next number of 32 bits.
+fn short(words: &mut Words<'_>, stop: u8) -> u32
+    ensures { length words.new ≤ length words.old }
+{
+    (words.number(stop) % (1 << 32)) as u32
 }
 
 // How many records a walk has given, and how many it counted.
-fn walked(rt: &impl Print, given: u32, count: u32) {
-    field(rt, b", walk", given as u64);
-    field(rt, b"", count as u64);
+fn walked(rt: &impl Print, walk: Walk) {
+    let _ = print!(rt; ", walk {} {}", walk.given, walk.count);
 }
 
 // ---- a walk begins
 
 // Writes how a walk begins, and gives the walk.
 fn begins(rt: &impl Print, begun: Begun) -> Walk {
-    field(rt, b"", begun.number as u64);
-    walked(rt, begun.walk.given, begun.walk.count);
+    column(rt, begun.number);
+    walked(rt, begun.walk);
     begun.walk
 }
 
-pub fn begin(rt: &(impl Files + Print), text: &[u8], from: usize) -> usize
-    ensures { from ≤ result }
+pub fn begin(rt: &(impl Files + Print), words: &mut Words<'_>)
+    ensures { length words.new ≤ length words.old }
 {
-    let mut room = room();
-    let sheet = next_sheet(rt, text, from, &mut room);
-    let end = label(rt, text, sheet.end);
-    let len = sheet.len;
-    begins(rt, walk::begin(&room[0..len]));
-    end
+    let mut sheet = Room::new();
+    words.sheet(rt, &mut sheet);
+    label(rt, words);
+    begins(rt, walk::begin(&sheet));
 }
 
 // ---- a step of a walk
 
 // Puts / where the listing line of so many bytes has its newline.
 fn close_line(room: &mut [u8], n: usize) {
-    if 0 < n {
-        if n <= room.len() {
-            if room[n - 1] == b'\n' {
-                room[n - 1] = b'/';
-            }
-        }
+    if let Some(line) = room.get_mut(..n)
+        && let Some(end) = line.last_mut()
+        && *end == b'\n'
+    {
+        *end = b'/';
     }
 }
 
 // A step, and the whole room.
-fn steps(rt: &impl Print, s: &[u8], walk: Walk, out: &mut [u8]) {
-    let step = walk::take_step(s, walk, out);
-    field(rt, b"", step.number as u64);
-    field(rt, b"", step.length as u64);
-    walked(rt, step.walk.given, step.walk.count);
+fn steps(rt: &impl Print, sheet: &[u8], walk: Walk, out: &mut [u8]) {
+    let step = walk::take_step(sheet, walk, out);
+    let _ = print!(rt; " {} {}", step.number, step.length);
+    walked(rt, step.walk);
     close_line(out, step.length);
     between(rt, out);
 }
 
-// A walk that is handed in, and the place behind it.
-#[derive(Clone, Copy)]
-struct Handed {
-    end: usize,
-    walk: Walk,
-}
-
-fn next_walk(text: &[u8], from: usize) -> Handed
-    ensures { from ≤ result.end }
+pub fn next(rt: &(impl Files + Print), words: &mut Words<'_>)
+    ensures { length words.new ≤ length words.old }
 {
-    let mut room = room();
-    let given = next_word(text, from, b' ', &mut room);
-    let count = next_word(text, given.end, b' ', &mut room);
-    Handed {
-        end: count.end,
-        walk: Walk {
-            given: short(given.number),
-            count: short(count.number),
-        },
-    }
-}
-
-pub fn next(rt: &(impl Files + Print), text: &[u8], from: usize) -> usize
-    ensures { from ≤ result }
-{
-    let mut out = room_of(b'.');
-    let mut room = room();
-    let lent = next_word(text, from, b' ', &mut room);
-    let handed = next_walk(text, lent.end);
-    let walk = handed.walk;
-    let sheet = next_sheet(rt, text, handed.end, &mut room);
-    let end = label(rt, text, sheet.end);
-    let n = (lent.number % 262145) as usize;
-    let len = sheet.len;
-    steps(rt, &room[0..len], walk, &mut out[0..n]);
-    end
+    let mut out = dots();
+    let mut sheet = Room::new();
+    let n = words.size();
+    let given = short(words, b' ');
+    let count = short(words, b' ');
+    words.sheet(rt, &mut sheet);
+    label(rt, words);
+    steps(rt, &sheet, Walk { given, count }, &mut out[..n]);
 }
 
 // ---- an add
 
-// A state that is typed: the place behind it, how many bytes its spelled name left in its room, and the rest.
+// A state that is typed, without its name.
 #[derive(Clone, Copy)]
-struct Typed {
-    end: usize,
-    len: usize,
+struct State {
     kind: u32,
     first: u64,
     second: u64,
 }
 
-// The state from a place on, its four words with a byte between, up to one that ends it.
-fn next_typed(text: &[u8], from: usize, gap: u8, stop: u8, room: &mut [u8]) -> Typed
-    ensures { (from ≤ result.end) × (result.len ≤ length room.new) }
+// The next state, its three words with a byte between, up to one that ends it.
+fn next_state(words: &mut Words<'_>, gap: u8, stop: u8) -> State
+    ensures { length words.new ≤ length words.old }
 {
-    let spelled = next_word(text, from, gap, room);
-    let mut digits = vector_words::room();
-    let kind = next_word(text, spelled.end, gap, &mut digits);
-    let first = next_word(text, kind.end, gap, &mut digits);
-    let second = next_word(text, first.end, stop, &mut digits);
-    Typed {
-        end: second.end,
-        len: spelled.len,
-        kind: short(kind.number),
-        first: first.number,
-        second: second.number,
+    let kind = short(words, gap);
+    let first = words.number(gap);
+    let second = words.number(stop);
+    State {
+        kind,
+        first,
+        second,
     }
 }
 
-// An add, and the whole room.
-fn adds(rt: &impl Print, s: &[u8], spelled: &[u8], state: Typed, out: &mut [u8]) {
-    outcome(
-        rt,
-        append::add(s, spelled, state.kind, state.first, state.second, out),
-    );
-    whole(rt, out);
+// A state under a name in a sheet with one more, in lent room.
+fn added(sheet: &[u8], spelled: &[u8], state: State, out: &mut [u8]) -> Result<usize, Refusal> {
+    append::add(sheet, spelled, state.kind, state.first, state.second, out)
 }
 
-pub fn add(rt: &(impl Files + Print), text: &[u8], from: usize) -> usize
-    ensures { from ≤ result }
+pub fn add(rt: &(impl Files + Print), words: &mut Words<'_>)
+    ensures { length words.new ≤ length words.old }
 {
-    let mut out = room_of(b'.');
-    let mut words = room();
-    let mut room = room();
-    let lent = next_word(text, from, b' ', &mut words);
-    let sheet = next_sheet(rt, text, lent.end, &mut room);
-    let state = next_typed(text, sheet.end, b' ', b' ', &mut words);
-    let end = label(rt, text, state.end);
-    let n = (lent.number % 262145) as usize;
-    let len = sheet.len;
-    let spelled = state.len;
-    adds(rt, &room[0..len], &words[0..spelled], state, &mut out[0..n]);
-    end
+    let mut out = dots();
+    let mut sheet = Room::new();
+    let mut spelled = Room::new();
+    let n = words.size();
+    words.sheet(rt, &mut sheet);
+    words.word(b' ', &mut spelled);
+    let state = next_state(words, b' ', b' ');
+    label(rt, words);
+    outcome(rt, added(&sheet, &spelled, state, &mut out[..n]));
+    whole(rt, &out[..n]);
 }
 
 // ---- adds during a walk
 
-// How far the acts came: the place of the next one, the length of the sheet at the start of its room, and the walk.
-#[derive(Clone, Copy)]
-struct Progress {
-    at: usize,
-    len: usize,
-    walk: Walk,
-}
-
 // A step of a walk, and its line.
-fn steps_on(rt: &impl Print, s: &[u8], walk: Walk) -> Walk {
+fn steps_on(rt: &impl Print, sheet: &[u8], walk: Walk) -> Walk {
     let mut out = [b'.'; 192];
-    let step = walk::take_step(s, walk, &mut out);
+    let step = walk::take_step(sheet, walk, &mut out);
     if step.number != 0 {
-        field(rt, b" refused", step.number as u64);
+        refused(rt, step.number);
     } else {
         close_line(&mut out, step.length);
-        between(rt, start_of(&out, step.length));
+        between(rt, out.get(..step.length).unwrap_or(&out));
     }
     step.walk
 }
 
-// Adds a state to the sheet of so many bytes in a room, and gives how many it has then.
-fn grows(rt: &impl Print, room: &mut [u8], n: usize, spelled: &[u8], state: Typed) -> usize {
-    let mut out = room_of(b'.');
-    match append::add(
-        start_of(room, n),
-        spelled,
-        state.kind,
-        state.first,
-        state.second,
-        &mut out,
-    ) {
-        Outcome::Refused(k) => {
-            field(rt, b" refused", k as u64);
-            n
-        }
-        Outcome::Done(k) => {
-            field(rt, b"", k as u64);
-            octets::put(start_of(&out, k), room);
-            k
-        }
+// Adds a state to a sheet.
+fn grows(rt: &impl Print, sheet: &mut Room, spelled: &[u8], state: State) {
+    let mut out = dots();
+    let grown = added(sheet, spelled, state, &mut out);
+    outcome(rt, grown);
+    if let Ok(n) = grown {
+        sheet.clear();
+        let _ = sheet.try_extend_from_slice(out.get(..n).unwrap_or(&out));
     }
 }
 
-// Does the act at a place, which its first letter tells.
-fn act(rt: &impl Print, acts: &[u8], came: Progress, sheet: &mut [u8]) -> Progress
-    requires { came.at < length acts.now }
-    ensures { came.at < result.at }
+// Does an act, which its first letter tells, and gives the walk.
+fn act(rt: &impl Print, letter: u8, acts: &mut Words<'_>, sheet: &mut Room, walk: Walk) -> Walk
+    ensures { length acts.new ≤ length acts.old }
 {
-    let mut room = room();
-    let at = came.at;
-    let n = came.len;
-    let walk = came.walk;
-    if acts[at] == b'a' {
-        let what = next_word(acts, at + 1, b':', &mut room);
-        let state = next_typed(acts, what.end, b':', b',', &mut room);
-        let end = state.end;
-        let spelled = state.len;
-        let len = grows(rt, sheet, n, &room[0..spelled], state);
-        return Progress { at: end, len, walk };
-    }
-    let what = next_word(acts, at + 1, b',', &mut room);
-    let s = start_of(sheet, n);
-    let walk = if acts[at] == b'b' {
-        begins(rt, walk::begin(s))
-    } else {
-        steps_on(rt, s, walk)
-    };
-    Progress {
-        at: what.end,
-        len: n,
-        walk,
+    let mut word = Room::new();
+    match letter {
+        b'a' => {
+            acts.word(b':', &mut word);
+            acts.word(b':', &mut word);
+            let state = next_state(acts, b':', b',');
+            grows(rt, sheet, &word, state);
+            walk
+        }
+        b'b' => {
+            acts.word(b',', &mut word);
+            begins(rt, walk::begin(sheet))
+        }
+        _ => {
+            acts.word(b',', &mut word);
+            steps_on(rt, sheet, walk)
+        }
     }
 }
 
-// Does all acts on the sheet of so many bytes in a room, and gives how many it has then.
-fn all_acts(rt: &impl Print, acts: &[u8], sheet: &mut [u8], n: usize) -> usize {
-    let mut came = Progress {
-        at: 0,
-        len: n,
-        walk: Walk { given: 0, count: 0 },
-    };
-    while came.at < acts.len() {
-        came = act(rt, acts, came, sheet);
+// Does all acts on a sheet.
+fn all_acts(rt: &impl Print, mut acts: Words<'_>, sheet: &mut Room) {
+    let mut walk = Walk { given: 0, count: 0 };
+    while let Some(letter) = acts.letter() {
+        walk = act(rt, letter, &mut acts, sheet, walk);
     }
-    came.len
 }
 
-pub fn during(rt: &(impl Files + Print), text: &[u8], from: usize) -> usize
-    ensures { from ≤ result }
+pub fn during(rt: &(impl Files + Print), words: &mut Words<'_>)
+    ensures { length words.new ≤ length words.old }
 {
-    let mut words = room();
-    let mut room = room();
-    let sheet = next_sheet(rt, text, from, &mut room);
-    let acts = next_word(text, sheet.end, b' ', &mut words);
-    let end = label(rt, text, acts.end);
-    let n = acts.len;
-    let len = all_acts(rt, &words[0..n], &mut room, sheet.len);
-    whole(rt, start_of(&room, len));
-    end
+    let mut sheet = Room::new();
+    let mut acts = Room::new();
+    words.sheet(rt, &mut sheet);
+    words.word(b' ', &mut acts);
+    label(rt, words);
+    all_acts(rt, Words::new(&acts), &mut sheet);
+    whole(rt, &sheet);
 }
