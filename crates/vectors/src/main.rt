@@ -22,161 +22,124 @@
 // In a word \x and two hexadecimal digits stand for a byte. A sheet is its bytes, or @ and the name of a file that has them.
 #![tactic(auto)]
 
-ghost use Rattle.std.specs.Prelude.{◌<◌, ◌≤◌, length};
+ghost use Rattle.std.specs.Prelude.{length, ◌≤◌};
 
-use octets::Outcome;
-use sheet_remark::Remark;
-use sheet_search::Lookup;
+use refusal::Refusal;
+use sheet_record::Record;
+use sheet_remark::Part;
+use std::io;
 use std::rt::Files;
-use vector_answers::{answer, between, field, outcome, say, whole};
+use vector_answers::{answer, between, column, outcome, refused, say, whole};
 use vector_names::label;
-use vector_words::{next_sheet, next_word, read_full, room, room_of};
+use vector_words::{Room, Words, dots};
 
-// ---- cases: each takes its words from a place on and gives the place behind its line
+// ---- cases: each takes its words, and the label that ends its line
 
-fn state(rt: &impl Print, text: &[u8], from: usize) -> usize
-    ensures { from ≤ result }
+fn state(rt: &impl Print, words: &mut Words<'_>)
+    ensures { length words.new ≤ length words.old }
 {
-    let mut room = room();
-    let kind = next_word(text, from, b' ', &mut room);
-    let first = next_word(text, kind.end, b' ', &mut room);
-    let second = next_word(text, first.end, b'\n', &mut room);
-    let _ = print!(rt; "{}", kind.number);
-    field(rt, b"", first.number);
-    field(rt, b"", second.number);
-    answer(
-        rt,
-        evaluate::evaluate((kind.number % 256) as u8, first.number, second.number),
-    );
-    second.end
+    let kind = words.number(b' ');
+    let first = words.number(b' ');
+    let second = words.number(b'\n');
+    let _ = print!(rt; "{kind} {first} {second}");
+    answer(rt, evaluate::evaluate((kind % 256) as u8, first, second));
 }
 
-fn check(rt: &(impl Files + Print), text: &[u8], from: usize) -> usize
-    ensures { from ≤ result }
+fn check(rt: &(impl Files + Print), words: &mut Words<'_>)
+    ensures { length words.new ≤ length words.old }
 {
-    let mut room = room();
-    let sheet = next_sheet(rt, text, from, &mut room);
-    let end = label(rt, text, sheet.end);
-    let len = sheet.len;
-    field(rt, b"", sheet::check(&room[0..len]) as u64);
-    end
+    let mut sheet = Room::new();
+    words.sheet(rt, &mut sheet);
+    label(rt, words);
+    column(
+        rt,
+        sheet::check(&sheet).map_or_else(Refusal::number, |()| 0),
+    );
 }
 
 // What a search finds.
-fn says(rt: &impl Print, found: Lookup) {
+fn says(rt: &impl Print, found: Result<Record, Refusal>) {
     match found {
-        Lookup::Hit(r) => {
-            field(rt, b" kind", r.kind as u64);
-            field(rt, b" first", r.first);
-            field(rt, b" second", r.second);
-            field(rt, b" at", r.start as u64);
+        Ok(r) => {
+            let _ = print!(rt;
+                " kind {} first {} second {} at {}",
+                r.kind, r.first, r.second, r.start
+            );
         }
-        Lookup::Miss(k) => field(rt, b" refused", k as u64),
+        Err(refusal) => refused(rt, refusal.number()),
     }
 }
 
 // Where a remark stands.
-fn tells(rt: &impl Print, remark: Remark) {
-    match remark {
-        Remark::At(p) => {
-            field(rt, b" remark at", p.start as u64);
-            field(rt, b" length", p.len as u64);
-        }
-        Remark::Refused(_) => {}
+fn tells(rt: &impl Print, remark: Result<Part, Refusal>) {
+    if let Ok(p) = remark {
+        let _ = print!(rt; " remark at {} length {}", p.start, p.len);
     }
 }
 
 // A search by a spelled name, and the part of the sheet that holds the name.
-fn finds(rt: &impl Print, s: &[u8], spelled: &[u8]) {
-    says(rt, calculator::locate(s, spelled));
-    tells(rt, calculator::found_remark(s, spelled));
-    between(rt, calculator::found_name(s, spelled));
-}
-
-fn find(rt: &(impl Files + Print), text: &[u8], from: usize) -> usize
-    ensures { from ≤ result }
+fn find(rt: &(impl Files + Print), words: &mut Words<'_>)
+    ensures { length words.new ≤ length words.old }
 {
-    let mut whole = room();
-    let mut room = room();
-    let s = next_sheet(rt, text, from, &mut whole);
-    let spelled = next_word(text, s.end, b' ', &mut room);
-    let end = label(rt, text, spelled.end);
-    let n = s.len;
-    let len = spelled.len;
-    finds(rt, &whole[0..n], &room[0..len]);
-    end
+    let mut sheet = Room::new();
+    let mut spelled = Room::new();
+    words.sheet(rt, &mut sheet);
+    words.word(b' ', &mut spelled);
+    label(rt, words);
+    says(rt, calculator::locate(&sheet, &spelled));
+    tells(rt, calculator::found_remark(&sheet, &spelled));
+    between(rt, calculator::found_name(&sheet, &spelled));
 }
 
-// A sheet in the other version, in lent room.
-fn other_version(s: &[u8], out: &mut [u8], back: bool) -> Outcome {
-    if back {
-        return convert::back(s, out);
-    }
-    convert::forward(s, out)
-}
-
-// What becomes of a sheet, and the whole room.
-fn converts(rt: &impl Print, s: &[u8], out: &mut [u8], back: bool) {
-    outcome(rt, other_version(s, out, back));
-    whole(rt, out);
-}
-
-fn convert(rt: &(impl Files + Print), text: &[u8], from: usize, back: bool) -> usize
-    ensures { from ≤ result }
+// A sheet in the other version, in lent room, and the whole room.
+fn convert<F: Fn(&[u8], &mut [u8]) -> Result<usize, Refusal>>(
+    rt: &(impl Files + Print),
+    words: &mut Words<'_>,
+    way: F,
+)
+    requires { F.IsAlwaysCallable way }
+    ensures { length words.new ≤ length words.old }
 {
-    let mut out = room_of(b'.');
-    let mut room = room();
-    let lent = next_word(text, from, b' ', &mut room);
-    let sheet = next_sheet(rt, text, lent.end, &mut room);
-    let end = label(rt, text, sheet.end);
-    let n = (lent.number % 262145) as usize;
-    let len = sheet.len;
-    converts(rt, &room[0..len], &mut out[0..n], back);
-    end
+    let mut out = dots();
+    let mut sheet = Room::new();
+    let n = words.size();
+    words.sheet(rt, &mut sheet);
+    label(rt, words);
+    outcome(rt, way(&sheet, &mut out[..n]));
+    whole(rt, &out[..n]);
 }
 
-// Runs the case at a place, which its first letter tells, or of b and f the first two, and gives the place of the next one.
-fn case(rt: &(impl Files + Print), text: &[u8], at: usize) -> usize
-    requires { at < length text.now }
-    ensures { at < result }
+// Runs a case, which its first letter tells, or of b and f the first two.
+fn case(rt: &(impl Files + Print), letter: u8, words: &mut Words<'_>)
+    ensures { length words.new ≤ length words.old }
 {
-    let mut room = room();
-    let what = next_word(text, at + 1, b' ', &mut room);
-    match text[at] {
-        b's' => state(rt, text, what.end),
-        b'p' => vector_weights::weights(rt, text, what.end, false),
-        b'm' => vector_weights::weights(rt, text, what.end, true),
-        b'r' => vector_names::read(rt, text, what.end),
-        b'w' => vector_names::write(rt, text, what.end),
-        b'c' => check(rt, text, what.end),
-        b'f' => {
-            if room[0] == b'o' {
-                convert(rt, text, what.end, false)
-            } else {
-                find(rt, text, what.end)
-            }
-        }
-        b'b' => {
-            if room[0] == b'e' {
-                vector_growing::begin(rt, text, what.end)
-            } else {
-                convert(rt, text, what.end, true)
-            }
-        }
-        b'n' => vector_growing::next(rt, text, what.end),
-        b'a' => vector_growing::add(rt, text, what.end),
-        b'd' => vector_growing::during(rt, text, what.end),
-        _ => label(rt, text, what.end),
+    let mut others = Room::new();
+    words.word(b' ', &mut others);
+    match (letter, others.first()) {
+        (b's', _) => state(rt, words),
+        (b'p', _) => vector_weights::plus(rt, words),
+        (b'm', _) => vector_weights::minus(rt, words),
+        (b'r', _) => vector_names::read(rt, words),
+        (b'w', _) => vector_names::write(rt, words),
+        (b'c', _) => check(rt, words),
+        (b'f', Some(b'o')) => convert(rt, words, convert::forward),
+        (b'f', _) => find(rt, words),
+        (b'b', Some(b'e')) => vector_growing::begin(rt, words),
+        (b'b', _) => convert(rt, words, convert::back),
+        (b'n', _) => vector_growing::next(rt, words),
+        (b'a', _) => vector_growing::add(rt, words),
+        (b'd', _) => vector_growing::during(rt, words),
+        _ => label(rt, words),
     }
 }
 
 fn main(rt: HostRuntime) {
-    let mut room = room();
-    let n = read_full(&mut rt.stdin(), &mut room);
-    let text = &room[0..n];
-    let mut at = 0;
-    while at < text.len() {
-        at = case(&rt, text, at);
+    let mut room = Room::new();
+    // what was read before a failure counts, and what fits the room
+    let _ = io::copy(&mut rt.stdin(), &mut room);
+    let mut words = Words::new(&room);
+    while let Some(letter) = words.letter() {
+        case(&rt, letter, &mut words);
         say(&rt, b"\n");
     }
 }
