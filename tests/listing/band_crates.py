@@ -162,6 +162,7 @@ abbrev pub {band}_piece : ℤ → Piece
         packing = ", ".join(f"packed::specs::Packed::{name}" for name in ("unpacked", "bytes_from", "words_of"))
         constant = "using(bicubic::proofs::Constant::constant_is), " if self.pieces[0].constant() else ""
         return f"""// {self.what}'s coefficients of the {self.band} band in {self.routine}, packed: the fit of the piece that Z chooses.
+// A function a piece: by its contract it is compared with the printed listing, by its block it is followed in the built library.
 #![tactic(auto, unfolding({packing}))]
 
 mod blocks;

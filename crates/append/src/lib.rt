@@ -12,7 +12,7 @@ ghost use Rattle.append.specs.Add.{add_fault, added};
 use distinct::Index;
 use refusal::Refusal;
 
-// Whether a number names a kind.
+// Whether a number names a kind: C hands in any.
 #[tactic(auto, using(kind::proofs::Byte::no_kind))]
 fn is_known(kind: u32) -> bool
     ensures { result ≡ is_known (kind_of kind) }
@@ -23,7 +23,7 @@ fn is_known(kind: u32) -> bool
     }
 }
 
-// Why a state may not be added: its kind, its name, the length that the sheet would have, and the room for that.
+// Why a state may not be added, the first of four reasons: its kind, its name, the length that the sheet would have, and the room for that.
 fn check(known: bool, there: bool, len: usize, room: usize) -> Result<(), Refusal>
     ensures { number_or_0 result ≡ add_fault known there len room }
 {

@@ -9,6 +9,7 @@ ghost use Rattle.bicubic.specs.Bicubic.{bicubic, exponent};
 
 use quotient::{mul, mul_small, mul_wide};
 
+// Each number has a size of its own, in bits, so that the sizes stand in the contracts and not in a type.
 // a + bY.
 fn linear(a: i64, b: i64, y: i64) -> i64
     requires { (In 43 a) × ((In 43 b) × (In 25 y)) }

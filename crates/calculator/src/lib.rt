@@ -27,7 +27,8 @@ pub fn locate_in(sheet: &Sheet, spelled: &[u8]) -> Result<Record, Refusal>
     sheet_search::find(sheet, &name)
 }
 
-// The record that a spelling finds in any bytes: the sheet's refusals, then the name's, then 9.
+// The record that a spelling finds in any bytes: the sheet's refusals, then the name's, then 9. By a number, not a spelling, it is
+// `record_at` of sheet_walk: what the two share is the sheet's index, which borrows from both; a closure over it is no plainer.
 #[tactic(auto, using(crate::proofs::Located::sheet_refused))]
 pub fn locate(sheet: &[u8], spelled: &[u8]) -> Result<Record, Refusal>
     ensures { numbered result ≡ locate sheet.now spelled.now }

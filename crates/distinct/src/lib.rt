@@ -33,6 +33,7 @@ impl Index {
         requires { (from ≤ 3449) × NamesFit s.now self.now.starts from × Falling self.now.next }
         ensures { Walked s.now self.now.starts self.now.next name.now from result }
     {
+        // a chain is no range
         let mut link = usize::from(from);
         while 0 < link {
             let j = link - 1;

@@ -5,6 +5,7 @@ ghost use Rattle.std.specs.Prelude.{◌≡◌};
 ghost use Rattle.air_entropy.specs.Entropy.{rise, entropy_at, above_limit};
 ghost use Rattle.air.specs.Ready.{PlaceReady};
 
+// Y and Z are numbers of their own, since a strip's edge has its own Y with the state's Z: `PlaceReady` says where they lie.
 // m of the perfect entropy.
 fn rise(y: i64, z: i64) -> i64
     requires { PlaceReady y z }

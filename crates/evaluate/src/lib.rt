@@ -9,7 +9,7 @@ ghost use Rattle.state.specs.State.{answer_by, IsAnswer};
 use air::Answer;
 use kind::Kind;
 
-// The answer for a state handed in: any kind byte, any two values.
+// The answer for a state handed in: any kind byte, since C and sheets hand in any, and any two values.
 pub fn evaluate(kind: u8, first: u64, second: u64) -> Answer
     ensures result_value { held result ≡ answer_by chosen kind first second }
     ensures answer { IsAnswer kind first second result }

@@ -25,6 +25,7 @@ pub enum Form {
     Kept,
 }
 
+// `Workable` says of a piece and a place together that the one can be worked out at the other, which no type of either says.
 // The fit of a piece that has a bicubic alone (GAS1 to GAS4).
 pub fn alone_at(a: &Block<10, 19>, y: i64, z: i64) -> Edge
     requires { Workable (packed_alone a.now) y z }

@@ -7,6 +7,7 @@ ghost use Rattle.flat.specs.Flat.{flat_edges, assembled, flat};
 
 use air::{Answer, Edges, Ends, Logs};
 
+// C's structs have a number for each refusal, and 0 for none.
 #[repr(C)]
 #[derive(Clone, Copy)]
 pub struct CEdge {

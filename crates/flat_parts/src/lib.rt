@@ -10,6 +10,7 @@ use refusal::Refusal;
 use sheet_record::Record;
 use sheet_remark::Part;
 
+// C's structs: a refusal's number or 0, a part of the sheet as its start and length.
 #[repr(C)]
 #[derive(Clone, Copy)]
 pub struct CRecord {

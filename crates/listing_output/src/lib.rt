@@ -80,6 +80,7 @@ pub fn write_next<W: Write>(
     ensures bytes { Takes (W.contents output.old) (W.contents output.new) (listing_by chosen sheet.now list.now) account.done (done_of result) }
 {
     let end = account.done + bytes.len();
+    // how far a write comes is told by the system
     let mut written = account;
     while written.done < end {
         let at = written.done - account.done;

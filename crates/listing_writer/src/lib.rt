@@ -27,6 +27,7 @@ fn write_parts<W: Write>(
     ensures bytes { Wrote (W.contents output.old) (W.contents output.new) (listing_by chosen sheet.now list.now) result }
 {
     let bytes = sheet.bytes();
+    // how far a part comes is told by the room
     let mut start = 0;
     let mut written = listing_output::nothing();
     while start < list.len() {

@@ -33,6 +33,7 @@ pub fn read(spelling: &[u8]) -> Result<Name, Refusal>
 {
     let mut name = Name::new();
     let mut too_long = false;
+    // a byte is spelled by one or three
     let mut rest = spelling;
     while !rest.is_empty() {
         let (byte, behind) = first_byte(rest).ok_or(Refusal::WrongSpelling)?;

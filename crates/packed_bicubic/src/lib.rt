@@ -18,7 +18,7 @@ pub fn bicubic_of(a: &Block<10, 19>, y: i64, z: i64) -> i64
     bicubic::bicubic(array::from_fn(|i| a.number(i)), y, z)
 }
 
-// The exponent of a block of four.
+// The exponent of a block of four. One function over both would take as much to call as each has in it.
 pub fn exponent_of(q: &Block<4, 8>, y: i64, z: i64) -> i64
     requires { (AllIn 44 (numbers q.now)) × ((In 25 y) × (In 25 z)) }
     ensures { result ≡ exponent (numbers q.now) y z }

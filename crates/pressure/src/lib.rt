@@ -60,7 +60,7 @@ fn pressure_from(e: u64, d: u64, logs: Logs) -> Answer
     }
 }
 
-// Pressure from an energy and a density of any size.
+// Pressure from an energy and a density of any size. As `temperature`: each names its own logarithms and answer.
 pub fn pressure(e: u64, d: u64) -> Answer
     ensures { held result ≡ held_by chosen (some pressure_property) e d }
 {

@@ -14,6 +14,7 @@ use bands::Strip;
 use fit::Edge;
 use refusal::Refusal;
 
+// As in temperature_join, over another fit; a function over both would take the property's refusal, test and value, and be no plainer.
 // The answer by the two gammas: the straight line between their pressures, both with the state's own energy and density.
 fn line(e: u64, d: u64, logs: Logs, strip: Strip, low: Edge, high: Edge) -> Answer
     requires { LineReady e d strip logs.y }

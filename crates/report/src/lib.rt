@@ -58,6 +58,7 @@ pub fn part(sheet: &Sheet, list: &[u8], start: usize, out: &mut [u8]) -> Progres
     ensures start_lt_next { start < length list.now → 192 ≤ length out.old → start < result.next }
     ensures list_len_bound { length (lines_by chosen sheet.now (lines_of (drop start list.now))) ≤ length out.old → length list.now ≤ result.next }
 {
+    // from line to line, as far as the room goes
     let mut from = start;
     let mut at = 0;
     while from < list.len() {

@@ -17,6 +17,7 @@ use sheet::Sheet;
 fn measure(sheet: &Sheet, list: &[u8], room: usize) -> Result<usize, Refusal>
     ensures { numbered result ≡ outcome_of (fitting room (lines_by chosen sheet.now (lines_of list.now))) }
 {
+    // from line to line, which are found as they are built
     let mut from = 0;
     let mut n = 0;
     while from < list.len() {

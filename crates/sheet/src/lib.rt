@@ -20,6 +20,7 @@ fn keep_places(reader: &mut Reader, starts: &mut [u16; 3449]) -> usize
     ensures sheet { reader.new.sheet ≡ reader.old.sheet }
     ensures walked { Walked reader.old.sheet.now reader.old.left reader.new.at reader.new.left result starts.new }
 {
+    // the reader gives a place or ends; over the places of the array the count would stand in the same lines
     let mut count: usize = 0;
     while let Some(at) = reader.step() {
         starts[count] = at as u16;

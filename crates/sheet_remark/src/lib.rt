@@ -11,7 +11,7 @@ ghost use Rattle.sheet_remark.specs.Remark.{remark_at, remark_of, RemarkInside};
 use refusal::Refusal;
 use sheet_record::Record;
 
-// A part of a sheet.
+// A part of a sheet, as C is given it.
 #[derive(Clone, Copy)]
 pub struct Part {
     pub start: usize,

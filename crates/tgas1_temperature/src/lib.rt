@@ -9,7 +9,7 @@ ghost use Rattle.tgas1_temperature.specs.Pieces.{piece_in};
 use bands::Band;
 use fit::Edge;
 
-// The fit of a band's piece that Z chooses.
+// The fit of a band's piece that Z chooses. As tgas1_gamma goes to its bands: one function over both would go to six crates.
 pub fn fit(band: Band, y: i64, z: i64) -> Edge
     requires { Workable (piece_in band z) y z }
     ensures { result ≡ edge_with weight_by (piece_in band z) y z }

@@ -1,4 +1,5 @@
 // Temperature's coefficients of the low band in TGAS1, packed: the fit of the piece that Z chooses.
+// A function a piece: by its contract it is compared with the printed listing, by its block it is followed in the built library.
 #![tactic(auto, unfolding(packed::specs::Packed::unpacked, packed::specs::Packed::bytes_from, packed::specs::Packed::words_of))]
 
 mod blocks;

@@ -15,6 +15,7 @@ pub fn column(rt: &impl Print, n: impl Display + Drop) {
     let _ = print!(rt; " {n}");
 }
 
+// A refusal by its number, as C's struct of a step has it.
 pub fn refused(rt: &impl Print, number: u32) {
     let _ = print!(rt; " refused {number}");
 }

@@ -21,7 +21,7 @@ pub struct Walk {
     pub count: u32,
 }
 
-// A walk that begins, or the number of the sheet's refusal.
+// A walk that begins, or the number of the sheet's refusal. C is given it as it is, so a number stands beside the walk.
 #[repr(C)]
 #[derive(Clone, Copy)]
 pub struct Begun {
@@ -30,6 +30,7 @@ pub struct Begun {
 }
 
 // A step: a refusal's number, or the length of a line, which is 0 where no record is left; and the walk after it.
+// C is given it as it is.
 #[repr(C)]
 #[derive(Clone, Copy)]
 pub struct Step {
