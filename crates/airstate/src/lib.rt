@@ -26,7 +26,7 @@ use flat_parts::{CMark, CPart, CRecord, CText};
 use refusal::Refusal;
 use walk::{Begun, Step, Walk};
 
-// The sheet's number: 0, 1 to 6, 16.
+// The sheet's number, for C: 0, 1 to 6, 16.
 #[unsafe(no_mangle)]
 pub extern "C" fn eas_check(sheet: &[u8]) -> u32
     ensures { result ≡ number_of (sheet_of sheet.now) }
@@ -70,7 +70,7 @@ pub extern "C" fn eas_search(sheet: &[u8], spelled: &[u8]) -> CAnswer
     flat::flatten(calculator::search(sheet, spelled))
 }
 
-// The answer for a state handed in: any number as its kind, any two values.
+// The answer for a state handed in: any number as its kind, since C hands in any, and any two values.
 #[unsafe(no_mangle)]
 pub extern "C" fn eas_evaluate(kind: u32, first: u64, second: u64) -> CAnswer
     ensures value { result ≡ flat (answer_by chosen kind first second) }
@@ -166,7 +166,7 @@ pub extern "C" fn eas_next(sheet: &[u8], walk: Walk, out: &mut [u8]) -> Step
     walk::take_step(sheet, walk, out)
 }
 
-// A sheet of version 2 with one state more, in lent room. What is kept of the sheet is `FlatAdd` (c_laws/specs/Growing).
+// A sheet of version 2 with one state more, of any kind, since C hands in any, in lent room. What is kept of the sheet is `FlatAdd` (c_laws/specs/Growing).
 #[unsafe(no_mangle)]
 pub extern "C" fn eas_add(
     sheet: &[u8],

@@ -65,6 +65,7 @@ pub fn add(
         len,
         out.len(),
     )?;
+    // kind is below 256: it was tested above
     append_record::put_grown(s, &name, kind as u8, first, second, out);
     Ok(len)
 }

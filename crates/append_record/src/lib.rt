@@ -6,7 +6,7 @@ ghost use Rattle.octets.specs.Bytes.{number_at, bytes_of};
 ghost use Rattle.octets.specs.Room.{text, written, put_at};
 ghost use Rattle.append_record.specs.Grown.{new_record, grown};
 
-// Writes a record with an empty remark to a place of a room, and gives the place behind it. The kind is the byte that is written.
+// Writes a record with an empty remark to a place of a room, and gives the place behind it. The kind is the byte that is written; a name's length fits one.
 fn put_record(name: &[u8], kind: u8, first: u64, second: u64, out: &mut [u8], at: usize) -> usize
     requires { (length name.now < 256) × (at + (length name.now + 19) ≤ length out.old) }
     ensures value { result ≡ at + length (new_record name.now kind first second) }

@@ -29,7 +29,7 @@ fn put_header(s: &[u8], version: u8, out: &mut [u8])
     out[..7].copy_from_slice(&[b'E', b'A', b'S', 0, version, s[5], s[6]]);
 }
 
-// Copies a record of a sheet to a place of a room, with an empty remark, and gives the place behind it.
+// Copies a record of a sheet to a place of a room, with an empty remark, and gives the place behind it. A name's length fits a byte.
 fn put_record(s: &[u8], r: Record, version: u8, out: &mut [u8], at: usize) -> usize
     requires { (r.len < 256) × (values_end r ≤ length s.now) × (at + length (record_as version s.now r) ≤ length out.old) }
     ensures value { result ≡ at + length (record_as version s.now r) }

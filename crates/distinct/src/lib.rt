@@ -60,6 +60,7 @@ impl Index {
                 return true;
             }
             self.next[i] = first;
+            // i is below 3,449
             self.heads[h] = i as u16 + 1;
         }
         false

@@ -57,7 +57,7 @@ static FINE: [u64; 32] = [
     538773063, 538852465, 538931879, 539011305, 539090742, 539170192, 539249652, 539329125,
 ];
 
-// The power at the multiple of 2,048 millionths at or below g.
+// The power at the multiple of 2,048 millionths at or below g. Here and below a place in a table is a small number of g.
 #[tactic(auto, using(power::proofs::Tables::coarse_at, power::proofs::Tables::middle_at, power::proofs::Kelvin::stride_is), unfolding(power::specs::Choice::coarse, power::specs::Choice::middle, power::specs::Choice::stride_of))]
 fn stride(g: u64) -> u64
     requires { g ≤ 1960000 }

@@ -39,7 +39,7 @@ static RISES: [u32; 32] = [
     4118487, 4114586,
 ];
 
-// The logarithm of (1024 + i + r / 2^32) / 1024 by the chord.
+// The logarithm of (1024 + i + r / 2^32) / 1024 by the chord. Here and below a place in a table is below 32, and a sum below 2^63.
 fn chord(i: u64, r: u64) -> u64
     requires { (i < 32) × (r < 4294967296) }
     ensures { (result ≡ chord_of i r) × (result ≤ 200000000) }

@@ -18,7 +18,7 @@ pub struct Point {
     pub up: f64,
 }
 
-// Where a value stands. Both doubles are exact.
+// Where a value stands. Both doubles are exact, which `as` gives of numbers below 2^53; i64 has no `From` to f64.
 fn point_of(y: i64, v: i64) -> Point
     requires { Drawable y v }
     ensures { result ≡ point_of y v }

@@ -20,7 +20,7 @@ pub fn plain(x: u8) -> bool
     x.is_ascii_alphanumeric() || matches!(x, b'-' | b'.' | b'_' | b'~')
 }
 
-// The value of a hexadecimal digit of either case.
+// The value of a hexadecimal digit of either case. `to_digit` gives 32 bits of a value below 16.
 #[tactic(auto, unfolding(crate::specs::Spelling::hex_value))]
 pub fn hex_value(x: u8) -> Option<u8>
     ensures { result ≡ digit_of x }
@@ -28,7 +28,7 @@ pub fn hex_value(x: u8) -> Option<u8>
     Some(char::from(x).to_digit(16)? as u8)
 }
 
-// A hexadecimal digit, upper case.
+// A hexadecimal digit, upper case; `from_digit` gives lower case.
 pub fn hex_digit(n: u8) -> u8
     requires { n < 16 }
     ensures { result ≡ hex_digit n }

@@ -14,7 +14,7 @@ pub struct Block<const N: usize, const W: usize> {
 }
 
 impl<const N: usize, const W: usize> Block<N, W> {
-    // The i-th number. Narrow or wide, two words are read and joined by one sum, without a branch.
+    // The i-th number. Narrow or wide (`wide` is 0 or 1), two words are read and joined by one sum, without a branch.
     pub fn number(&self, i: usize) -> i64
         requires { i < N }
         ensures { result ≡ get_or (unpacked self.now.bytes self.now.words) i (pos 0) }

@@ -46,7 +46,7 @@ pub fn is_either_beyond(low: i64, high: i64) -> bool
     is_beyond(low) || is_beyond(high)
 }
 
-// The pressure of a gamma that does not.
+// The pressure of a gamma that does not. Such a gamma is above 1.01, and the pressure below 2^63, so that `as` loses nothing.
 pub fn pressure_of(e: u64, d: u64, gamma: i64) -> i64
     requires { (ValuesReady e d) × (beyond_gamma gamma ≡ false) }
     ensures { result ≡ pressure_of e d gamma }

@@ -7,7 +7,7 @@ ghost use Rattle.std.specs.Int.Signed.{shr_z};
 ghost use Rattle.quotient.specs.Range.{In, Divides, Splits};
 ghost use Rattle.quotient.specs.Mul.{mul};
 
-// a / m: moved up by a multiple of m to above 0, where the machine's quotient rounds down.
+// a / m, by `as` where nothing is below 0: moved up by a multiple of m to above 0, where the machine's quotient rounds down.
 pub fn floor_div(a: i64, m: i64) -> i64
     requires { Divides a m }
     ensures { result ≡ shr_z a (nat_abs m) }

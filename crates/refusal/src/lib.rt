@@ -29,7 +29,7 @@ pub enum Refusal {
 }
 
 impl Refusal {
-    // The number of a condition.
+    // The number of a condition, as it stands above: only `as` reads it.
     pub fn number(self) -> u32
         ensures { result ≡ number_for self }
     {

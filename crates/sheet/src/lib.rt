@@ -23,6 +23,7 @@ fn keep_places(reader: &mut Reader, starts: &mut [u16; 3449]) -> usize
     // the reader gives a place or ends; over the places of the array the count would stand in the same lines
     let mut count: usize = 0;
     while let Some(at) = reader.step() {
+        // a place in 65,536 bytes at most
         starts[count] = at as u16;
         count += 1;
     }
@@ -73,7 +74,7 @@ impl<'a> Sheet<'a> {
         self.bytes
     }
 
-    // How many records the sheet has.
+    // How many records the sheet has, by two bytes of it.
     #[tactic(auto, using(crate::proofs::Counted::accepted_count, crate::proofs::Places::seven))]
     pub fn count(&self) -> usize
         ensures value { result ≡ length (records_of (sheet_of self.now)) }

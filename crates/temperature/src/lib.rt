@@ -68,6 +68,7 @@ fn temperature_from(p: u64, d: u64, logs: Logs) -> Answer
             logs,
             edges,
         },
+        // such a temperature is below 2^63
         Region::Perfect => Answer::Shows {
             letter,
             logs,

@@ -35,7 +35,7 @@ pub fn is_either_beyond(low: i64, high: i64) -> bool
     is_beyond(low) || is_beyond(high)
 }
 
-// The temperature of a fit that does not.
+// The temperature of a fit that does not. Such a fit is not negative, and its power below 2^63.
 pub fn kelvin_of(fit: i64) -> i64
     requires { beyond_fit fit ≡ false }
     ensures { result ≡ kelvin_by chosen fit }

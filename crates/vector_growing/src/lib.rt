@@ -10,7 +10,7 @@ use vector_names::label;
 use vector_words::{Room, Words, dots};
 use walk::{Begun, Walk};
 
-// The next number of 32 bits.
+// The next number, of which 32 bits are taken.
 fn short(words: &mut Words<'_>, stop: u8) -> u32
     ensures { length words.new ≤ length words.old }
 {

@@ -109,7 +109,7 @@ impl<'a> Words<'a> {
         n
     }
 
-    // How many bytes of a room a case lends.
+    // How many bytes of a room a case lends: no more than it has, whatever the word is.
     pub fn size(&mut self) -> usize
         ensures rest { length self.new ≤ length self.old }
         ensures bound { result ≤ ROOM }

@@ -42,6 +42,7 @@ fn state(rt: &impl Print, words: &mut Words<'_>)
     let first = words.number(b' ');
     let second = words.number(b'\n');
     let _ = print!(rt; "{kind} {first} {second}");
+    // a kind is any byte
     answer(rt, evaluate::evaluate((kind % 256) as u8, first, second));
 }
 

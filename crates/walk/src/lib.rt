@@ -39,7 +39,7 @@ pub struct Step {
     pub walk: Walk,
 }
 
-// Begins a walk over the records that a sheet has now.
+// Begins a walk over the records that a sheet has now, whose count is two bytes of it.
 #[tactic(auto, using(crate::proofs::Steps::begun_refused, crate::proofs::Steps::begun_counted))]
 pub fn begin(sheet: &[u8]) -> Begun
     ensures { result ≡ begun_by (sheet_of sheet.now) }

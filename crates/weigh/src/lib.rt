@@ -57,7 +57,7 @@ static SIXTEENTHS: [u64; 16] = [
     70489012802,
 ];
 
-// scale / e^(i/16): the product of two entries over scale = 10^4 * 1.8 * 10^7, one entry split at four digits.
+// scale / e^(i/16), with places below 24 and 16: the product of two entries over scale = 10^4 * 1.8 * 10^7, one entry split at four digits.
 fn inverse_at(i: u64) -> u64
     requires { i < 384 }
     ensures { result ≡ inverse i }
@@ -114,7 +114,7 @@ fn above(sign: Sign, u: u64) -> u64
     }
 }
 
-// The weight at q units, by the size of q.
+// The weight at q units, by the size of q. A size is far below 2^63.
 fn weight_at(sign: Sign, q: i64) -> i64
     requires { Served (sign_of sign) q }
     ensures { result ≡ weight_by (sign_of sign) q }
