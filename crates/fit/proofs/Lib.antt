@@ -7,3 +7,4 @@ pub mod Box
 pub mod Corners
 pub mod Distance
 pub mod Pieces
+pub mod Arms

@@ -1,7 +1,7 @@
 -- Request 2: coefficients in less read-only memory. Of a block of numbers, memory holds words of 32 bits, signed, and a byte for each number to find it by.
-use Rattle.std.specs.Prelude.{ℕ, ◌+◌, ◌*◌, ◌/◌, ◌%◌, Bool, true, cond, ◌&&◌, List, [], ◌∷◌, ◌++◌, ◌≡◌, T, ltb, eqb, ℤ, pos, negsuc, ◌+ℤ◌, ◌-ℤ◌, ◌*ℤ◌, get_or, length, take}
+use Rattle.std.specs.Prelude.{ℕ, ◌+◌, ◌*◌, ◌/◌, ◌%◌, ◌<◌, Bool, true, cond, ◌&&◌, List, [], ◌∷◌, ◌++◌, ◌≡◌, T, ltb, eqb, ℤ, pos, negsuc, ◌+ℤ◌, ◌-ℤ◌, ◌*ℤ◌, get_or, length, take}
 use Rattle.std.specs.Int.Signed.{le_z, lt_z, shr_z}
-use Rattle.quotient.specs.Range.{AllIn}
+use Rattle.quotient.specs.Range.{In, AllIn}
 
 -- ---- what is read back
 abbrev pub word_at : List ℤ → ℕ → ℤ
@@ -57,6 +57,13 @@ pub record IsPacked (n : ℕ) (bytes : List ℕ) (words : List ℤ) : Type 0 whe
   pub words_in : AllIn 31 words
   pub bytes_are : bytes ≡ bytes_from 0 (unpacked bytes words)
   pub words_are : take (length (words_of (unpacked bytes words))) words ≡ words_of (unpacked bytes words)
+
+-- what the code asks to read the i-th number
+pub record Reads (bytes : List ℕ) (words : List ℤ) (i : ℕ) : Type 0 where
+  pub index : i < length bytes
+  pub found : place_of (get_or bytes i 0) + get_or bytes i 0 % 2 < length words
+  pub words_in : AllIn 31 words
+  pub size : In 62 (number_at words (get_or bytes i 0))
 
 -- ---- the law of the reader: whatever numbers are packed, and whatever stands behind them, they are read back
 abbrev pub ReadsBack : Type 0
