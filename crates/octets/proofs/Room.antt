@@ -1,12 +1,34 @@
 -- A text behind a place of a room, and texts in turn from its start on.
 -- Assumes nothing.
-use mathlib.Core.List.{List, ◌++◌, append_assoc}
+use mathlib.Core.Bool.{Bool, true, cond}
+use mathlib.Core.List.{List, [], ◌++◌, append_assoc, append-nil}
 use mathlib.Core.Path.{◌≡◌, refl, sym, ap, ap₂, ◌∙◌, subst}
-use Prim.Native.Nat.{ℕ, ◌+◌, ◌≤◌}
+use Prim.Native.Nat.{ℕ, ◌+◌, ◌-◌, ◌≤◌}
 use native.Mathlib.Omega.{arith}
+use borrow.Author.Tests.{le-leb}
+use lib.Dec.{leb}
 use lib.ListN.{length, take, drop, length-append, length-drop, take-append-drop}
-use lib.Seq.{length-take-le, take_at, drop-drop, drop-append-add}
-use Rattle.octets.specs.Room.{put_at}
+use lib.Seq.{length-take-le, take_all, take_at, drop-drop, drop-append-add}
+use Rattle.octets.specs.Room.{text, refused, fitting, written, put_at}
+use Rattle.octets.proofs.Stores.{dropped}
+
+-- a text that is put behind a place: the middle that is lent is the rest of the room
+pub appended : (out t last : List ℕ) (at : ℕ)
+    → at + length t ≤ length out
+    → last ≡ written (fitting (length (take (length out - at) (drop at out))) t) (take (length out - at) (drop at out))
+    → take at out ++ (last ++ drop (length out - at) (drop at out)) ≡ put_at out at t
+appended out t last at h e =
+    let k : ℕ = length out - at in
+    let d : length (drop at out) ≡ k = length-drop at out in
+    let m : take k (drop at out) ≡ drop at out = take_all k (drop at out) (omega arith) in
+    let p : drop k (drop at out) ≡ [] = dropped k (drop at out) (omega arith) in
+    let f : leb (length t) (length (drop at out)) ≡ true = le-leb (length t) (length (drop at out)) (omega arith) in
+    let w : last ≡ t ++ drop (length t) (drop at out) =
+    e
+    ∙ ap (λ (x : List ℕ). written (fitting (length x) t) x) m
+    ∙ ap (λ (b : Bool). written (cond b (text t) (refused 14)) (drop at out)) f in
+    ap (λ (x : List ℕ). take at out ++ (last ++ x)) p
+    ∙ ap (λ (x : List ℕ). take at out ++ x) (append-nil last ∙ w ∙ ap (λ (x : List ℕ). t ++ x) (drop-drop (length t) at out))
 
 -- texts so far stand at the start of a room, and behind them is what it held
 pub record Begun (room done : List ℕ) (at : ℕ) (out : List ℕ) : Type 0 where

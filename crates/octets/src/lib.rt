@@ -15,7 +15,10 @@ pub fn put(text: &[u8], out: &mut [u8]) -> Result<usize, Refusal>
     if out.len() < text.len() {
         return Err(Refusal::RoomTooShort);
     }
-    out[..text.len()].copy_from_slice(text);
+    // byte by byte: copy_from_slice would have the library ask C for memmove, which it does without
+    for i in 0..text.len() {
+        out[i] = text[i];
+    }
     Ok(text.len())
 }
 
@@ -25,7 +28,6 @@ pub fn append(text: &[u8], out: &mut [u8], at: usize) -> usize
     ensures value { result ≡ at + length text.now }
     ensures out_after { out.new ≡ put_at out.old at text.now }
 {
-    let end = at + text.len();
-    out[at..end].copy_from_slice(text);
-    end
+    let _ = put(text, &mut out[at..]);
+    at + text.len()
 }
