@@ -5,7 +5,7 @@ ghost use Rattle.std.specs.Prelude.{ℕ, List, ◌≡◌, ◌<◌, ◌≤◌, le
 
 use arrayvec::ArrayVec;
 use std::fs::File;
-use std::io;
+use std::io::{self, Read};
 use std::marker::Model;
 use std::rt::Files;
 
@@ -98,6 +98,15 @@ impl<'a> Words<'a> {
         }
     }
 
+    // The first byte of a word that ends at a byte `stop`; the others are left out.
+    pub fn beginning(&mut self, stop: u8) -> Option<u8>
+        ensures { length self.new ≤ length self.old }
+    {
+        let first = self.byte(stop)?;
+        while self.byte(stop).is_some() {}
+        Some(first)
+    }
+
     // The number of a word, if its bytes are digits.
     pub fn number(&mut self, stop: u8) -> u64
         ensures { length self.new ≤ length self.old }
@@ -125,9 +134,9 @@ impl<'a> Words<'a> {
         if let [b'@', name @ ..] = room.as_slice() {
             let file = open_named(rt, name);
             room.clear();
-            if let Some(mut file) = file {
-                // what was read before a failure counts, and what fits the room
-                let _ = io::copy(&mut file, room);
+            if let Some(file) = file {
+                // what was read before a failure counts; no more is asked for than fits the room
+                let _ = io::copy(&mut file.take(ROOM as u64), room);
             }
         }
     }

@@ -27,11 +27,11 @@ ghost use Rattle.std.specs.Prelude.{length, ◌≤◌};
 use refusal::Refusal;
 use sheet_record::Record;
 use sheet_remark::Part;
-use std::io;
+use std::io::{self, Read};
 use std::rt::Files;
 use vector_answers::{answer, between, column, outcome, refused, say, whole};
 use vector_names::label;
-use vector_words::{Room, Words, dots};
+use vector_words::{ROOM, Room, Words, dots};
 
 // ---- cases: each takes its words, and the label that ends its line
 
@@ -114,9 +114,7 @@ fn convert<F: Fn(&[u8], &mut [u8]) -> Result<usize, Refusal>>(
 fn case(rt: &(impl Files + Print), letter: u8, words: &mut Words<'_>)
     ensures { length words.new ≤ length words.old }
 {
-    let mut others = Room::new();
-    words.word(b' ', &mut others);
-    match (letter, others.first()) {
+    match (letter, words.beginning(b' ')) {
         (b's', _) => state(rt, words),
         (b'p', _) => vector_weights::plus(rt, words),
         (b'm', _) => vector_weights::minus(rt, words),
@@ -136,8 +134,8 @@ fn case(rt: &(impl Files + Print), letter: u8, words: &mut Words<'_>)
 
 fn main(rt: HostRuntime) {
     let mut room = Room::new();
-    // what was read before a failure counts, and what fits the room
-    let _ = io::copy(&mut rt.stdin(), &mut room);
+    // what was read before a failure counts; no more is asked for than fits the room
+    let _ = io::copy(&mut rt.stdin().take(ROOM as u64), &mut room);
     let mut words = Words::new(&room);
     while let Some(letter) = words.letter() {
         case(&rt, letter, &mut words);
