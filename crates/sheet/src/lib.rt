@@ -66,6 +66,14 @@ impl<'a> Model for Sheet<'a> {
 }
 
 impl<'a> Sheet<'a> {
+    // A sheet whose index is at hand.
+    pub fn over(bytes: &'a [u8], index: &'a Index) -> Self
+        requires { Indexed bytes.now index.now.starts index.now.heads index.now.next }
+        ensures { result ≡ bytes.now }
+    {
+        Sheet { bytes, index }
+    }
+
     // The sheet's bytes.
     pub fn bytes(&self) -> &'a [u8]
         ensures value { result.now ≡ self.now }
@@ -107,7 +115,7 @@ pub fn index<'a>(bytes: &'a [u8], room: &'a mut Index) -> Result<Sheet<'a>, Refu
     ensures sheet { IfOk result (λ t. t ≡ bytes.now) }
 {
     fill(bytes, room)?;
-    Ok(Sheet { bytes, index: room })
+    Ok(Sheet::over(bytes, room))
 }
 
 // The first condition that refuses a sheet, if any does.

@@ -18,15 +18,18 @@ pub struct Reader<'a> {
 }
 
 impl<'a> Reader<'a> {
+    // A reader at a place of a sheet, where so many records are left.
+    pub fn at(sheet: &'a [u8], at: usize, left: usize) -> Self
+        ensures { (result.sheet ≡ sheet.entry) × (result.at ≡ at) × (result.left ≡ left) }
+    {
+        Reader { sheet, at, left }
+    }
+
     // A reader behind a sheet's header, where so many records are announced.
     pub fn new(sheet: &'a [u8], records: usize) -> Self
         ensures { (result.sheet ≡ sheet.entry) × (result.at ≡ 7) × (result.left ≡ records) }
     {
-        Reader {
-            sheet,
-            at: 7,
-            left: records,
-        }
+        Reader::at(sheet, 7, records)
     }
 
     // Goes behind the record that stands where the reader is, and gives its place; stays where none stands.
