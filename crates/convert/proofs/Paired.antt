@@ -20,7 +20,8 @@ use Rattle.sheet.proofs.Walk.{records_from}
 use Rattle.sheet.proofs.Entries.{Entries, entries_from}
 use Rattle.sheet.proofs.Heads.{in_front, entries_past}
 use Rattle.convert_records.specs.Records.{empty_remark, record_bytes, records_as, bare}
-use Rattle.convert.proofs.Next.{Next, next, bytes_are, empty_most, remark_length}
+use Rattle.convert_records.proofs.Next.{Next, next, bytes_are}
+use Rattle.convert.proofs.Next.{empty_most, remark_length}
 
 -- the versions that are converted
 pub data Version : ℕ → Type 0 where

@@ -20,7 +20,8 @@ use Rattle.sheet_version.specs.Version.{sheet_in}
 use Rattle.sheet_version.proofs.Version.{in_same, in_version_lem}
 use Rattle.sheet_search.proofs.Pages.{page_of, page_by, page_behind, page_number, number_page}
 use Rattle.convert_records.specs.Records.{records_as, header_as, sheet_as, bare}
-use Rattle.convert.proofs.Next.{reading, count_bytes}
+use Rattle.convert_records.proofs.Next.{reading}
+use Rattle.convert.proofs.Next.{count_bytes}
 use Rattle.convert.proofs.Paired.{Version, one, two, layout, Paired, and_true, pair, pair_entries, Returned, returned}
 
 -- the seven bytes of a header, and the count that its last two write

@@ -15,6 +15,7 @@ use Rattle.sheet_record.specs.Layout.{Layout, layout_in, layout_of, or_plain, pl
 use Rattle.sheet_record.specs.Front.{values_end}
 use Rattle.sheet_record.specs.declared.Record.{Record}
 use Rattle.sheet.specs.Sheet.{Sheet, records, sheet_of, number_of, records_of}
+use Rattle.sheet.proofs.Counted.{accepted_count}
 use Rattle.sheet_version.specs.Version.{sheet_in}
 use Rattle.sheet_version.proofs.Version.{in_version_lem, read_in_lem, count_read, few_read, most_read}
 use Rattle.sheet_remark.specs.Remark.{remark_at}
@@ -100,6 +101,6 @@ pub forward_told : (s : List ℕ) (room : ℕ) → number_of (sheet_in 1 s) ≡ 
 forward_told s room a h = forward_long s room _ a (forward_length s a) h
 
 -- what the proof of each way goes by
-pub ruleset forward_laws = (few_records, most_read, forward_length, forward_refused, forward_told, forward_fitting)
+pub ruleset forward_laws = (accepted_count, few_records, most_read, forward_length, forward_refused, forward_told, forward_fitting)
 
-pub ruleset back_laws = (few_records, back_length, back_refused, back_remarked, back_fitting)
+pub ruleset back_laws = (accepted_count, few_records, back_length, back_refused, back_remarked, back_fitting)

@@ -21,7 +21,7 @@ pub fn forward(s: &[u8], out: &mut [u8]) -> Result<usize, Refusal>
     if 65536 < len {
         return Err(Refusal::SheetTooLong);
     }
-    convert_records::put_sheet(&sheet, 2, len, out)
+    convert_records::put_sheet(sheet.bytes(), sheet.count(), 2, len, out)
 }
 
 // A sheet of version 2 whose remarks are empty in version 1, in lent room.
@@ -35,5 +35,6 @@ pub fn back(s: &[u8], out: &mut [u8]) -> Result<usize, Refusal>
     if convert_records::has_remark(&sheet) {
         return Err(Refusal::HasRemark);
     }
-    convert_records::put_sheet(&sheet, 1, s.len() - sheet.count(), out)
+    let count = sheet.count();
+    convert_records::put_sheet(sheet.bytes(), count, 1, s.len() - count, out)
 }

@@ -1,30 +1,37 @@
 -- One record more: of those that are written, and of those that are looked at.
-use mathlib.Core.Bool.{Bool, true, false, ◌&&◌, and-false, and_assoc}
+use mathlib.Core.Bool.{Bool, true, false, cond, ◌&&◌, and-false, and_assoc}
 use mathlib.Core.Option.{Option, some}
 use mathlib.Core.List.{List, [], ◌∷◌, ◌++◌, Memᴰ, append_assoc, append-nil}
-use mathlib.Core.Path.{◌≡◌, refl, sym, ap, ap₂, ◌∙◌}
+use mathlib.Core.Path.{◌≡◌, refl, sym, ap, ap₂, ◌∙◌, subst}
 use Prim.Native.Nat.{ℕ, zero, suc, ◌+◌, ◌-◌, ◌≤◌, ◌<◌}
 use native.Mathlib.Numerals.{unary_clauses}
 use native.Mathlib.Omega.{arith}
 use lib.Dec.{eqb}
 use lib.Seq.{take_all, length-take-le}
-use lib.ListN.{length, take, drop, length-append, length-drop, take-append-drop}
-use Rattle.std.specs.Prelude.{Some, slice_get, Ok}
+use lib.ListN.{length, get_or, take, drop, length-append, length-drop}
+use Rattle.std.specs.Prelude.{Some, None, slice_get, Ok}
 use Rattle.std.proofs.lemmas.List.{take_more}
 use Rattle.std.proofs.lemmas.Option.{slice_get_within, get_or_from_slice_get}
+use Rattle.octets.specs.Bytes.{number_at}
 use Rattle.octets.specs.Room.{text, written, put_at}
 use Rattle.octets.proofs.Room.{Begun, begun, begun_more, put_twice}
 use Rattle.sheet_record.specs.Layout.{layout_in, layout_of}
-use Rattle.sheet_record.specs.Front.{Tailed, values_end}
+use Rattle.sheet_record.specs.Front.{Tailed, values_end, front_of, record_at, past, behind, entry_at, stands_at}
 use Rattle.sheet_record.specs.declared.Record.{Record}
+use Rattle.sheet_record.proofs.Steps.{stands_left}
+use Rattle.sheet_reader.specs.declared.Reader.{Reader}
+use Rattle.sheet_reader.specs.Reading.{standing, place_given, read_on, stepped}
 use Rattle.sheet.proofs.Places.{seven}
 use Rattle.sheet.specs.Sheet.{sheet_of, records_of, Accepted}
+use Rattle.sheet.specs.Structure.{fault_from}
+use Rattle.sheet.proofs.Walk.{records_from}
 use Rattle.sheet.proofs.Counted.{accepted_records}
 use Rattle.sheet_search.specs.Find.{Inside}
-use Rattle.sheet_search.proofs.Locate.{Located, finds}
+use Rattle.sheet_search.proofs.Locate.{finds}
 use Rattle.sheet_remark.specs.Remark.{remark_at, remark_in}
 use Rattle.sheet_remark.proofs.Remarks.{whole_is}
 use Rattle.convert_records.specs.Records.{empty_remark, record_bytes, record_as, records_as, header_as, bare}
+use Rattle.convert_records.proofs.Next.{Next, next, values_inside, reading}
 
 -- a record by its number is one of the records
 among : (rs : List Record) (i : ℕ) (r : Record) → slice_get rs i ≡ Some r → Memᴰ r rs
@@ -37,19 +44,9 @@ taken : (rs : List Record) (i : ℕ) (r : Record) → slice_get rs i ≡ Some r 
 taken rs i r e = take_more rs i r (slice_get_within rs i r e) ∙ ap (λ (q : Record). take i rs ++ (q ∷ [])) (get_or_from_slice_get rs i r r e)
 
 -- a record of an accepted sheet lies in it
-module _ (s : List ℕ) (a : Accepted s) (i : ℕ) (r : Record) (e : slice_get (records_of (sheet_of s)) i ≡ Some r) where
-  located : Located (layout_in s) s (records_of (sheet_of s)) r
-  unfolding layout_in
-  located = finds layout_of s (records_of (sheet_of s)) r (accepted_records s a) (among (records_of (sheet_of s)) i r e)
-
-  pub short : r.len < 256
-  short = omega (arith, located.fit.short)
-
-  pub inside : Inside s (Ok r)
-  inside = located.fit.inside
-
-  pub values_inside : values_end r ≤ length s
-  values_inside = omega (arith, located.fit.inside.fits)
+pub inside : (s : List ℕ) → Accepted s → (i : ℕ) (r : Record) → slice_get (records_of (sheet_of s)) i ≡ Some r → Inside s (Ok r)
+unfolding layout_in
+inside s a i r e = (finds layout_of s (records_of (sheet_of s)) r (accepted_records s a) (among (records_of (sheet_of s)) i r e)).fit.inside
 
 -- three texts in turn
 pub put_thrice : (room a b c mid late last : List ℕ) (at next end : ℕ)
@@ -66,56 +63,113 @@ put_thrice room a b c mid late last at next end h m n l e p =
     ∙ rw (e, l, m, n) (rw (put_twice room a b at h, i) (put_twice room (a ++ b) c at h))
     ∙ ap (put_at room at) (append_assoc a b c)
 
--- where the writing stands: the first records are in the room behind its header
-pub record Put (w : ℕ) (s : List ℕ) (rs : List Record) (room : List ℕ) (i at : ℕ) (out : List ℕ) : Type 0 where
-  pub begun : Begun room (take 7 room ++ records_as w s (take i rs)) at out
+-- where the writing stands: the records that the reader has passed are in the room behind its header, and those that are left make the rest
+pub record Putting (w : ℕ) (s whole room : List ℕ) (r : Reader) (at : ℕ) (out : List ℕ) : Type 0 where
+  pub sheet : r.sheet.now ≡ s
+  pub fault : fault_from (layout_in s) s r.left r.at ≡ 0
+  pub done : List ℕ
+  pub split : whole ≡ done ++ records_as w s (records_from (layout_in s) s r.left r.at)
+  pub begun : Begun room (take 7 room ++ done) at out
 
-pub put_none : (w : ℕ) (s : List ℕ) (rs : List Record) (room : List ℕ) → 7 + length (records_as w s rs) ≤ length room → Put w s rs room 0 7 room
-unfolding records_as
-put_none w s rs room h = record { begun = rw (append-nil (take 7 room)) (begun room 7 (omega arith)) }
+pub put_begins : (w : ℕ) (s room : List ℕ) (r : Reader) → Accepted s → r.left ≡ number_at 2 s 5 → r.sheet.now ≡ s → r.at ≡ 7 → 7 ≤ length room
+    → Putting w s (records_as w s (records_of (sheet_of s))) room r 7 room
+put_begins w s room r a e q p h =
+    let i = reading s r.left a e in
+    record {
+      sheet = q;
+      fault = ap (fault_from (layout_in s) s r.left) p ∙ i.fault;
+      done = [];
+      split = ap (records_as w s) (i.records_are ∙ ap (records_from (layout_in s) s r.left) (sym p));
+      begun = rw (append-nil (take 7 room)) (begun room 7 h);
+    }
 
-as_both : (w : ℕ) (s : List ℕ) (rs qs : List Record) → records_as w s (rs ++ qs) ≡ records_as w s rs ++ records_as w s qs
-unfolding records_as
-as_both w s [] qs = refl
-as_both w s (r ∷ rs) qs =
-    ap (λ (x : List ℕ). record_bytes s r ++ (empty_remark w ++ x)) (as_both w s rs qs)
-    ∙ sym (ap (λ (x : List ℕ). record_bytes s r ++ x) (append_assoc (empty_remark w) (records_as w s rs) (records_as w s qs)))
-    ∙ sym (append_assoc (record_bytes s r) (empty_remark w ++ records_as w s rs) (records_as w s qs))
+-- where the reader goes on to, a record is put: what that needs, and where the writing stands then
+pub record Coming (w : ℕ) (s whole room : List ℕ) (r q : Reader) (at : ℕ) (out : List ℕ) (from : ℕ) : Type 0 where
+  pub fewer : q.left < r.left
+  pub short : get_or s from 0 < 256
+  pub fits : from + 18 + get_or s from 0 ≤ length s
+  pub space : at + length (record_as w s (entry_at s from)) ≤ 7 + length whole
+  pub more : (next : ℕ) (last : List ℕ) → next ≡ at + length (record_as w s (entry_at s from)) → last ≡ put_at out at (record_as w s (entry_at s from))
+      → Putting w s whole room q next last
 
-as_one : (w : ℕ) (s : List ℕ) (r : Record) → records_as w s (r ∷ []) ≡ record_as w s r
-unfolding records_as
-as_one w s r = ap (λ (x : List ℕ). record_bytes s r ++ x) (append-nil (empty_remark w))
+module _ {w : ℕ} {s whole room : List ℕ} {r : Reader} {at : ℕ} {out : List ℕ} (p : Putting w s whole room r at out) (h : 7 + length whole ≤ length room) where
+  behind_header : at ≡ 7 + length p.done
+  behind_header = omega (arith, p.begun.here, length-append (take 7 room) p.done, length-take-le 7 room (omega arith))
 
-module _ {w : ℕ} {s : List ℕ} {rs : List Record} {room : List ℕ} {i at : ℕ} {out : List ℕ} (p : Put w s rs room i at out) where
-  pub put_all : 7 + length (records_as w s rs) ≤ length room → i ≡ length rs → out ≡ put_at room 7 (records_as w s rs)
-  put_all h e =
-      let t : List ℕ = records_as w s rs in
-      let all : records_as w s (take i rs) ≡ t = ap (records_as w s) (take_all i rs (omega arith)) in
-      let n : at ≡ 7 + length t = omega (arith, p.begun.here, length-append (take 7 room) (records_as w s (take i rs)), ap length all, length-take-le 7 room (omega arith)) in
+  stands_is : standing r ≡ stands_at (layout_in s) s r.at r.left
+  stands_is = ap (λ (x : List ℕ). stands_at (layout_in x) x r.at r.left) p.sheet
+
+  -- where no record stands, none is left
+  none_left : (n : ℕ) → r.left ≡ n → standing r ≡ false → n ≡ 0
+  none_left zero e k = refl
+  none_left (suc n) e k =
+      let i = next (layout_in s) s r.at r.left (omega arith) p.fault in
+      let b : true ≡ false = sym i.stands ∙ sym stands_is ∙ k in
+      cc
+
+  all_done : r.left ≡ 0 → whole ≡ p.done
+  unfolding records_as records_from
+  all_done z = p.split ∙ ap (λ (n : ℕ). p.done ++ records_as w s (records_from (layout_in s) s n r.at)) z ∙ append-nil p.done
+
+  pub put_all : place_given r ≡ None → out ≡ put_at room 7 whole
+  put_all e =
+      let d = all_done (none_left r.left refl (given_none (standing r) e)) in
+      let n : at ≡ 7 + length whole = omega (arith, behind_header, ap length d) in
       p.begun.holds
-      ∙ append_assoc (take 7 room) (records_as w s (take i rs)) (drop at room)
-      ∙ ap₂ (λ (x : List ℕ) (k : ℕ). take 7 room ++ (x ++ drop k room)) all n
+      ∙ append_assoc (take 7 room) p.done (drop at room)
+      ∙ ap₂ (λ (x : List ℕ) (k : ℕ). take 7 room ++ (x ++ drop k room)) (sym d) n
+    where
+      given_none : (b : Bool) → cond b (Some r.at) None ≡ None → b ≡ false
+      given_none true k = cc
+      given_none false k = refl
 
-  module _ {r : Record} (e : slice_get rs i ≡ Some r) where
-    more : records_as w s (take (i + 1) rs) ≡ records_as w s (take i rs) ++ record_as w s r
-    more = ap (records_as w s) (taken rs i r e) ∙ as_both w s (take i rs) (r ∷ []) ∙ ap (λ (x : List ℕ). records_as w s (take i rs) ++ x) (as_one w s r)
+  module _ (q : standing r ≡ true) where
+    here : Next (layout_in s) s r.at r.left
+    here = next (layout_in s) s r.at r.left (omega (arith, stands_left (layout_in s) s r.at r.left (sym stands_is ∙ q))) p.fault
 
-    pub put_room : 7 + length (records_as w s rs) ≤ length room → length out ≡ length room → at + length (record_as w s r) ≤ length out
-    put_room h o =
-        let a : List ℕ = records_as w s (take i rs) in
-        let b : List ℕ = records_as w s (drop (i + 1) rs) in
-        let whole : records_as w s rs ≡ (a ++ record_as w s r) ++ b =
-        sym (ap (records_as w s) (take-append-drop (i + 1) rs)) ∙ as_both w s (take (i + 1) rs) (drop (i + 1) rs) ∙ ap (λ (x : List ℕ). x ++ b) more in
-        omega (arith, p.begun.here, ap length whole, length-append (take 7 room) a, length-append (a ++ record_as w s r) b, length-append a (record_as w s r), length-take-le 7 room (omega arith))
+    place : (read_on r).at ≡ past r.at here.fields
+    place = ap (λ (x : List ℕ). behind r.at (front_of (layout_in x) (drop r.at x))) p.sheet ∙ here.behind_is
 
-    pub put_more : {next : ℕ} {last : List ℕ} → next ≡ at + length (record_as w s r) → last ≡ put_at out at (record_as w s r) → Put w s rs room (i + 1) next last
-    put_more {next} {last} n l =
-        let front : List ℕ = records_as w s (take i rs) in
+    entry : record_at r.at here.fields ≡ entry_at s r.at
+    entry = ap (record_at r.at) here.sound.is
+
+    abbrev one : List ℕ
+    one = record_as w s (entry_at s r.at)
+
+    abbrev later : ℕ → List ℕ
+    later from = records_as w s (records_from (layout_in s) s (r.left - 1) from)
+
+    split_next : whole ≡ p.done ++ (one ++ later (past r.at here.fields))
+    unfolding records_as
+    split_next =
+        p.split
+        ∙ ap (λ (rs : List Record). p.done ++ records_as w s rs) here.records
+        ∙ ap (λ (x : List ℕ). p.done ++ x) (sym (append_assoc (record_bytes s (record_at r.at here.fields)) (empty_remark w) (later (past r.at here.fields))))
+        ∙ ap (λ (g : Record). p.done ++ (record_as w s g ++ later (past r.at here.fields))) entry
+
+    coming : Coming w s whole room r (read_on r) at out r.at
+    coming =
         record {
-          begun =
-              rw (more, ← append_assoc (take 7 room) front (record_as w s r))
-              (begun_more room (take 7 room ++ front) at out (record_as w s r) next last p.begun n l);
+          fewer = omega (arith, stands_left (layout_in s) s r.at r.left (sym stands_is ∙ q));
+          short = omega (arith, here.sound.short, here.sound.len_is);
+          fits = values_inside (layout_in s) s r.at here.fields here.sound;
+          space = omega (arith, behind_header, ap length split_next, length-append p.done (one ++ later (past r.at here.fields)), length-append one (later (past r.at here.fields)));
+          more = λ next last n o.
+              record {
+                sheet = p.sheet;
+                fault = ap (fault_from (layout_in s) s (r.left - 1)) place ∙ here.fault;
+                done = p.done ++ one;
+                split = split_next ∙ sym (append_assoc p.done one (later (past r.at here.fields))) ∙ ap (λ (i : ℕ). (p.done ++ one) ++ later i) (sym place);
+                begun = subst (λ (l : List ℕ). Begun room l next last) (append_assoc (take 7 room) p.done one) (begun_more room (take 7 room ++ p.done) at out one next last p.begun n o);
+              };
         }
+
+  pub put_next : (from : ℕ) → place_given r ≡ Some from → Coming w s whole room r (stepped r) at out from
+  put_next from e = go (standing r) refl e
+    where
+      go : (b : Bool) → standing r ≡ b → cond b (Some r.at) None ≡ Some from → Coming w s whole room r (cond b (read_on r) r) at out from
+      go false k f = cc
+      go true k f = let i : r.at ≡ from = cc in rw (← i) (coming k)
 
 -- the remark of a record that lies in the sheet is what follows its values, but for the length byte
 pub remark_len : (end n : ℕ) → (remark_at end (some n)).len ≡ n - 1

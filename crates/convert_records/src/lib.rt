@@ -3,15 +3,17 @@
 
 ghost use Rattle.std.specs.Prelude.{not, ◌++◌, ◌≡◌, ◌+◌, ◌≤◌, ◌<◌, eqb, length, drop, Ok};
 ghost use Rattle.refusal.specs.Numbered.{numbered};
+ghost use Rattle.octets.specs.Bytes.{number_at};
 ghost use Rattle.octets.specs.Room.{fitting, written, put_at, outcome_of};
 ghost use Rattle.sheet_record.specs.Front.{values_end};
-ghost use Rattle.sheet.specs.Sheet.{sheet_of, records_of};
+ghost use Rattle.sheet.specs.Sheet.{sheet_of, records_of, Accepted};
 ghost use Rattle.sheet_search.specs.Find.{Inside};
 ghost use Rattle.sheet_remark.specs.Remark.{remark_in};
 ghost use Rattle.convert_records.specs.Records.{empty_remark, record_as, records_as, header_as, sheet_as, bare};
 
 use refusal::Refusal;
 use sheet::Sheet;
+use sheet_reader::Reader;
 use sheet_record::Record;
 
 // An empty remark in a version.
@@ -40,30 +42,36 @@ fn put_record(s: &[u8], r: Record, version: u8, out: &mut [u8], at: usize) -> us
     octets::append(empty_remark(version), out, end)
 }
 
-// Writes the records of a sheet to a room behind its header, in a version and with empty remarks.
-#[tactic(auto, using(crate::proofs::Turns::short, crate::proofs::Turns::values_inside, crate::proofs::Turns::put_none, crate::proofs::Turns::put_room, crate::proofs::Turns::put_all))]
-fn put_records(sheet: &Sheet, version: u8, out: &mut [u8])
-    requires { 7 + length (records_as version sheet.now (records_of (sheet_of sheet.now))) ≤ length out.old }
-    ensures { out.new ≡ put_at out.old 7 (records_as version sheet.now (records_of (sheet_of sheet.now))) }
+// Writes the records of an accepted sheet to a room behind its header, in a version and with empty remarks.
+fn put_records(s: &[u8], count: usize, version: u8, out: &mut [u8])
+    requires { Accepted s.now × (count ≡ number_at 2 s.now 5) × (7 + length (records_as version s.now (records_of (sheet_of s.now))) ≤ length out.old) }
+    ensures { out.new ≡ put_at out.old 7 (records_as version s.now (records_of (sheet_of s.now))) }
 {
+    let mut reader = Reader::new(s, count);
     let mut at = 7;
-    for i in 0..sheet.count() {
-        at = put_record(sheet.bytes(), sheet.record(i), version, out, at);
+    while let Some(from) = reader.step() {
+        at = put_record(s, sheet_record::entry_at(s, from), version, out, at);
     }
 }
 
-// Writes a sheet to lent room that is long enough for it, in a version and with empty remarks.
+// Writes an accepted sheet to lent room that is long enough for it, in a version and with empty remarks.
 #[tactic(auto, using(sheet::proofs::Places::seven, crate::proofs::Turns::header_room, crate::proofs::Turns::put_whole))]
-pub fn put_sheet(sheet: &Sheet, version: u8, len: usize, out: &mut [u8]) -> Result<usize, Refusal>
-    requires { length (sheet_as version sheet.now (records_of (sheet_of sheet.now))) ≡ len }
-    ensures value { numbered result ≡ outcome_of (fitting (length out.old) (sheet_as version sheet.now (records_of (sheet_of sheet.now)))) }
-    ensures out_after { out.new ≡ written (fitting (length out.old) (sheet_as version sheet.now (records_of (sheet_of sheet.now)))) out.old }
+pub fn put_sheet(
+    s: &[u8],
+    count: usize,
+    version: u8,
+    len: usize,
+    out: &mut [u8],
+) -> Result<usize, Refusal>
+    requires { Accepted s.now × (count ≡ number_at 2 s.now 5) × (length (sheet_as version s.now (records_of (sheet_of s.now))) ≡ len) }
+    ensures value { numbered result ≡ outcome_of (fitting (length out.old) (sheet_as version s.now (records_of (sheet_of s.now)))) }
+    ensures out_after { out.new ≡ written (fitting (length out.old) (sheet_as version s.now (records_of (sheet_of s.now)))) out.old }
 {
     if out.len() < len {
         return Err(Refusal::RoomTooShort);
     }
-    put_header(sheet.bytes(), version, out);
-    put_records(sheet, version, out);
+    put_header(s, version, out);
+    put_records(s, count, version, out);
     Ok(len)
 }
 
