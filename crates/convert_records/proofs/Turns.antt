@@ -1,5 +1,5 @@
 -- One record more: of those that are written, and of those that are looked at.
-use mathlib.Core.Bool.{Bool, true, false, cond, ◌&&◌, and-false, and_assoc}
+use mathlib.Core.Bool.{Bool, true, false, ◌&&◌, and-false, and_assoc}
 use mathlib.Core.Option.{Option, some}
 use mathlib.Core.List.{List, [], ◌∷◌, ◌++◌, Memᴰ, append_assoc, append-nil}
 use mathlib.Core.Path.{◌≡◌, refl, sym, ap, ap₂, ◌∙◌, subst}
@@ -7,9 +7,9 @@ use Prim.Native.Nat.{ℕ, zero, suc, ◌+◌, ◌-◌, ◌≤◌, ◌<◌}
 use native.Mathlib.Numerals.{unary_clauses}
 use native.Mathlib.Omega.{arith}
 use lib.Dec.{eqb}
-use lib.Seq.{take_all, length-take-le}
+use lib.Seq.{length-take-le}
 use lib.ListN.{length, get_or, take, drop, length-append, length-drop}
-use Rattle.std.specs.Prelude.{Some, None, slice_get, Ok}
+use Rattle.std.specs.Prelude.{Some, slice_get, Ok}
 use Rattle.std.proofs.lemmas.List.{take_more}
 use Rattle.std.proofs.lemmas.Option.{slice_get_within, get_or_from_slice_get}
 use Rattle.octets.specs.Bytes.{number_at}
@@ -18,9 +18,6 @@ use Rattle.octets.proofs.Room.{Begun, begun, begun_more, put_twice}
 use Rattle.sheet_record.specs.Layout.{layout_in, layout_of}
 use Rattle.sheet_record.specs.Front.{Tailed, values_end, front_of, record_at, past, behind, entry_at, stands_at}
 use Rattle.sheet_record.specs.declared.Record.{Record}
-use Rattle.sheet_record.proofs.Steps.{stands_left}
-use Rattle.sheet_reader.specs.declared.Reader.{Reader}
-use Rattle.sheet_reader.specs.Reading.{standing, place_given, read_on, stepped}
 use Rattle.sheet.proofs.Places.{seven}
 use Rattle.sheet.specs.Sheet.{sheet_of, records_of, Accepted}
 use Rattle.sheet.specs.Structure.{fault_from}
@@ -63,113 +60,92 @@ put_thrice room a b c mid late last at next end h m n l e p =
     ∙ rw (e, l, m, n) (rw (put_twice room a b at h, i) (put_twice room (a ++ b) c at h))
     ∙ ap (put_at room at) (append_assoc a b c)
 
--- where the writing stands: the records that the reader has passed are in the room behind its header, and those that are left make the rest
-pub record Putting (w : ℕ) (s whole room : List ℕ) (r : Reader) (at : ℕ) (out : List ℕ) : Type 0 where
-  pub sheet : r.sheet.now ≡ s
-  pub fault : fault_from (layout_in s) s r.left r.at ≡ 0
+-- where the writing stands: the records in front of a place are in the room behind its header, and those that are left make the rest
+pub record Putting (w : ℕ) (s whole room : List ℕ) (from left at : ℕ) (out : List ℕ) : Type 0 where
+  pub fault : fault_from (layout_in s) s left from ≡ 0
   pub done : List ℕ
-  pub split : whole ≡ done ++ records_as w s (records_from (layout_in s) s r.left r.at)
+  pub split : whole ≡ done ++ records_as w s (records_from (layout_in s) s left from)
   pub begun : Begun room (take 7 room ++ done) at out
 
-pub put_begins : (w : ℕ) (s room : List ℕ) (r : Reader) → Accepted s → r.left ≡ number_at 2 s 5 → r.sheet.now ≡ s → r.at ≡ 7 → 7 ≤ length room
-    → Putting w s (records_as w s (records_of (sheet_of s))) room r 7 room
-put_begins w s room r a e q p h =
-    let i = reading s r.left a e in
+pub put_begins : (w : ℕ) (s room : List ℕ) (count : ℕ) → Accepted s → count ≡ number_at 2 s 5 → 7 ≤ length room
+    → Putting w s (records_as w s (records_of (sheet_of s))) room 7 count 7 room
+put_begins w s room count a e h =
+    let i = reading s count a e in
     record {
-      sheet = q;
-      fault = ap (fault_from (layout_in s) s r.left) p ∙ i.fault;
+      fault = i.fault;
       done = [];
-      split = ap (records_as w s) (i.records_are ∙ ap (records_from (layout_in s) s r.left) (sym p));
+      split = ap (records_as w s) i.records_are;
       begun = rw (append-nil (take 7 room)) (begun room 7 h);
     }
 
--- where the reader goes on to, a record is put: what that needs, and where the writing stands then
-pub record Coming (w : ℕ) (s whole room : List ℕ) (r q : Reader) (at : ℕ) (out : List ℕ) (from : ℕ) : Type 0 where
-  pub fewer : q.left < r.left
+-- the record at the place is put next: what that needs, and where the writing stands then
+pub record Coming (w : ℕ) (s whole room : List ℕ) (from left at : ℕ) (out : List ℕ) : Type 0 where
+  pub stands : stands_at (layout_in s) s from left ≡ true
   pub short : get_or s from 0 < 256
   pub fits : from + 18 + get_or s from 0 ≤ length s
   pub space : at + length (record_as w s (entry_at s from)) ≤ 7 + length whole
-  pub more : (next : ℕ) (last : List ℕ) → next ≡ at + length (record_as w s (entry_at s from)) → last ≡ put_at out at (record_as w s (entry_at s from))
-      → Putting w s whole room q next last
+  pub more : (place fewer next : ℕ) (last : List ℕ)
+      → place ≡ behind from (front_of (layout_in s) (drop from s))
+      → fewer + 1 ≡ left
+      → next ≡ at + length (record_as w s (entry_at s from))
+      → last ≡ put_at out at (record_as w s (entry_at s from))
+      → Putting w s whole room place fewer next last
 
-module _ {w : ℕ} {s whole room : List ℕ} {r : Reader} {at : ℕ} {out : List ℕ} (p : Putting w s whole room r at out) (h : 7 + length whole ≤ length room) where
+module _ {w : ℕ} {s whole room : List ℕ} {from left at : ℕ} {out : List ℕ} (p : Putting w s whole room from left at out) (h : 7 + length whole ≤ length room) where
   behind_header : at ≡ 7 + length p.done
   behind_header = omega (arith, p.begun.here, length-append (take 7 room) p.done, length-take-le 7 room (omega arith))
 
-  stands_is : standing r ≡ stands_at (layout_in s) s r.at r.left
-  stands_is = ap (λ (x : List ℕ). stands_at (layout_in x) x r.at r.left) p.sheet
-
-  -- where no record stands, none is left
-  none_left : (n : ℕ) → r.left ≡ n → standing r ≡ false → n ≡ 0
-  none_left zero e k = refl
-  none_left (suc n) e k =
-      let i = next (layout_in s) s r.at r.left (omega arith) p.fault in
-      let b : true ≡ false = sym i.stands ∙ sym stands_is ∙ k in
-      cc
-
-  all_done : r.left ≡ 0 → whole ≡ p.done
+  all_done : left ≡ 0 → whole ≡ p.done
   unfolding records_as records_from
-  all_done z = p.split ∙ ap (λ (n : ℕ). p.done ++ records_as w s (records_from (layout_in s) s n r.at)) z ∙ append-nil p.done
+  all_done z = p.split ∙ ap (λ (n : ℕ). p.done ++ records_as w s (records_from (layout_in s) s n from)) z ∙ append-nil p.done
 
-  pub put_all : place_given r ≡ None → out ≡ put_at room 7 whole
-  put_all e =
-      let d = all_done (none_left r.left refl (given_none (standing r) e)) in
+  pub put_all : left ≡ 0 → out ≡ put_at room 7 whole
+  put_all z =
+      let d = all_done z in
       let n : at ≡ 7 + length whole = omega (arith, behind_header, ap length d) in
       p.begun.holds
       ∙ append_assoc (take 7 room) p.done (drop at room)
       ∙ ap₂ (λ (x : List ℕ) (k : ℕ). take 7 room ++ (x ++ drop k room)) (sym d) n
-    where
-      given_none : (b : Bool) → cond b (Some r.at) None ≡ None → b ≡ false
-      given_none true k = cc
-      given_none false k = refl
 
-  module _ (q : standing r ≡ true) where
-    here : Next (layout_in s) s r.at r.left
-    here = next (layout_in s) s r.at r.left (omega (arith, stands_left (layout_in s) s r.at r.left (sym stands_is ∙ q))) p.fault
+  module _ (l : 0 < left) where
+    here : Next (layout_in s) s from left
+    here = next (layout_in s) s from left l p.fault
 
-    place : (read_on r).at ≡ past r.at here.fields
-    place = ap (λ (x : List ℕ). behind r.at (front_of (layout_in x) (drop r.at x))) p.sheet ∙ here.behind_is
-
-    entry : record_at r.at here.fields ≡ entry_at s r.at
-    entry = ap (record_at r.at) here.sound.is
+    entry : record_at from here.fields ≡ entry_at s from
+    entry = ap (record_at from) here.sound.is
 
     abbrev one : List ℕ
-    one = record_as w s (entry_at s r.at)
+    one = record_as w s (entry_at s from)
 
     abbrev later : ℕ → List ℕ
-    later from = records_as w s (records_from (layout_in s) s (r.left - 1) from)
+    later place = records_as w s (records_from (layout_in s) s (left - 1) place)
 
-    split_next : whole ≡ p.done ++ (one ++ later (past r.at here.fields))
+    split_next : whole ≡ p.done ++ (one ++ later (past from here.fields))
     unfolding records_as
     split_next =
         p.split
         ∙ ap (λ (rs : List Record). p.done ++ records_as w s rs) here.records
-        ∙ ap (λ (x : List ℕ). p.done ++ x) (sym (append_assoc (record_bytes s (record_at r.at here.fields)) (empty_remark w) (later (past r.at here.fields))))
-        ∙ ap (λ (g : Record). p.done ++ (record_as w s g ++ later (past r.at here.fields))) entry
+        ∙ ap (λ (x : List ℕ). p.done ++ x) (sym (append_assoc (record_bytes s (record_at from here.fields)) (empty_remark w) (later (past from here.fields))))
+        ∙ ap (λ (r : Record). p.done ++ (record_as w s r ++ later (past from here.fields))) entry
 
-    coming : Coming w s whole room r (read_on r) at out r.at
-    coming =
+    pub put_next : Coming w s whole room from left at out
+    put_next =
         record {
-          fewer = omega (arith, stands_left (layout_in s) s r.at r.left (sym stands_is ∙ q));
+          stands = here.stands;
           short = omega (arith, here.sound.short, here.sound.len_is);
-          fits = values_inside (layout_in s) s r.at here.fields here.sound;
-          space = omega (arith, behind_header, ap length split_next, length-append p.done (one ++ later (past r.at here.fields)), length-append one (later (past r.at here.fields)));
-          more = λ next last n o.
-              record {
-                sheet = p.sheet;
-                fault = ap (fault_from (layout_in s) s (r.left - 1)) place ∙ here.fault;
+          fits = values_inside (layout_in s) s from here.fields here.sound;
+          space = omega (arith, behind_header, ap length split_next, length-append p.done (one ++ later (past from here.fields)), length-append one (later (past from here.fields)));
+          more = λ place fewer next last e k n o.
+              let i : place ≡ past from here.fields = e ∙ here.behind_is in
+              let m : fewer ≡ left - 1 = omega arith in
+              rw (i, m)
+              (record {
+                fault = here.fault;
                 done = p.done ++ one;
-                split = split_next ∙ sym (append_assoc p.done one (later (past r.at here.fields))) ∙ ap (λ (i : ℕ). (p.done ++ one) ++ later i) (sym place);
-                begun = subst (λ (l : List ℕ). Begun room l next last) (append_assoc (take 7 room) p.done one) (begun_more room (take 7 room ++ p.done) at out one next last p.begun n o);
-              };
+                split = split_next ∙ sym (append_assoc p.done one (later (past from here.fields)));
+                begun = subst (λ (x : List ℕ). Begun room x next last) (append_assoc (take 7 room) p.done one) (begun_more room (take 7 room ++ p.done) at out one next last p.begun n o);
+              });
         }
-
-  pub put_next : (from : ℕ) → place_given r ≡ Some from → Coming w s whole room r (stepped r) at out from
-  put_next from e = go (standing r) refl e
-    where
-      go : (b : Bool) → standing r ≡ b → cond b (Some r.at) None ≡ Some from → Coming w s whole room r (cond b (read_on r) r) at out from
-      go false k f = cc
-      go true k f = let i : r.at ≡ from = cc in rw (← i) (coming k)
 
 -- the remark of a record that lies in the sheet is what follows its values, but for the length byte
 pub remark_len : (end n : ℕ) → (remark_at end (some n)).len ≡ n - 1

@@ -13,7 +13,6 @@ ghost use Rattle.convert_records.specs.Records.{empty_remark, record_as, records
 
 use refusal::Refusal;
 use sheet::Sheet;
-use sheet_reader::Reader;
 use sheet_record::Record;
 
 // An empty remark in a version.
@@ -47,10 +46,10 @@ fn put_records(s: &[u8], count: usize, version: u8, out: &mut [u8])
     requires { Accepted s.now × (count ≡ number_at 2 s.now 5) × (7 + length (records_as version s.now (records_of (sheet_of s.now))) ≤ length out.old) }
     ensures { out.new ≡ put_at out.old 7 (records_as version s.now (records_of (sheet_of s.now))) }
 {
-    let mut reader = Reader::new(s, count);
-    let mut at = 7;
-    while let Some(from) = reader.step() {
+    let (mut from, mut at) = (7, 7);
+    for i in 0..count {
         at = put_record(s, sheet_record::entry_at(s, from), version, out, at);
+        from = sheet_record::past_at(s, from, count - i);
     }
 }
 
