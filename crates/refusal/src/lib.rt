@@ -2,7 +2,7 @@
 #![tactic(auto)]
 
 ghost use Rattle.std.specs.Prelude.{◌≡◌};
-ghost use Rattle.refusal.specs.Numbered.{number_for};
+ghost use Rattle.refusal.specs.Numbered.{number_for, numbered};
 
 // The conditions in the order of their numbers, which C and the listing show.
 #[derive(Clone, Copy, Debug, PartialEq, Eq)]
@@ -34,5 +34,15 @@ impl Refusal {
         ensures { result ≡ number_for self }
     {
         self as u32
+    }
+}
+
+// A result with the number in the refusal's place, as C and answers have it: what takes a number takes any.
+pub fn by_number<T>(found: Result<T, Refusal>) -> Result<T, u32>
+    ensures { result ≡ numbered found }
+{
+    match found {
+        Ok(value) => Ok(value),
+        Err(refusal) => Err(refusal.number()),
     }
 }
