@@ -2,7 +2,6 @@
 use Rattle.std.proofs.Math.Option.{Option, none, some}
 use Rattle.std.specs.Prelude as rust
 use Rattle.std.specs.Prelude.{ℕ, ℤ, None}
-use Rattle.refusal.specs.Numbered.{number_for}
 use Rattle.air.specs.declared.Logs.{Logs}
 use Rattle.air.specs.declared.Edges.{Edges}
 use Rattle.air.specs.declared.Edges.TheVariants.{Unfitted}
@@ -32,6 +31,6 @@ abbrev pub shows : ℕ → Logs → Edges → rust.Option Ends → ℤ → Held
 shows c l e s v = record { number = 0; letter = c; logs = some l; edges = e; ends = s; value = some v }
 
 abbrev pub held : Answer → Held
-held (Refused r) = refuses (number_for r)
-held (Judged c r l e) = judges (number_for r) c l e
+held (Refused n) = refuses n
+held (Judged c n l e) = judges n c l e
 held (Shows c l e s v) = shows c l e s v

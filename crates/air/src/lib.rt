@@ -3,7 +3,6 @@
 #![tactic(auto)]
 
 use fit::Edge;
-use refusal::Refusal;
 
 // The logarithms that an answer carries, in whole millionths: y and z, and those of a pressure also x.
 #[derive(Clone, Copy, Debug, PartialEq, Eq)]
@@ -32,12 +31,12 @@ pub struct Ends {
 // them, behind the shorter fields, so that an answer is handed on in whole words.
 #[derive(Clone, Copy)]
 pub enum Answer {
-    // A refusal alone.
-    Refused(Refusal),
+    // A refusal's number alone. Any number, since C's callers hand in any.
+    Refused(u32),
     // A refusal with what it was judged by: 12, 13, 17.
     Judged {
         letter: u8,
-        refusal: Refusal,
+        number: u32,
         logs: Logs,
         edges: Edges,
     },

@@ -63,7 +63,7 @@ fn entropy_from(logs: Logs) -> Answer
     match within_limit(logs.y, logs.z) {
         None => Answer::Judged {
             letter,
-            refusal: Refusal::OutsideFits,
+            number: Refusal::OutsideFits.number(),
             logs,
             edges,
         },
@@ -83,6 +83,6 @@ pub fn entropy(e: u64, d: u64) -> Answer
 {
     match answers::energy_logs(e, d) {
         Ok(logs) => entropy_from(logs),
-        Err(refusal) => Answer::Refused(refusal),
+        Err(refusal) => Answer::Refused(refusal.number()),
     }
 }

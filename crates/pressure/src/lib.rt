@@ -20,11 +20,11 @@ fn unjoined(e: u64, d: u64, logs: Logs) -> Answer
     ensures { held result ≡ fitted_by chosen (pressure_rule e d) (pressure_of e d) None logs }
 {
     let letter = b'P';
-    let refusal = Refusal::Gamma;
+    let number = Refusal::Gamma.number();
     if pressure_fit::is_warned(logs.y, logs.z) {
         return Answer::Judged {
             letter,
-            refusal,
+            number,
             logs,
             edges: Edges::Unfitted,
         };
@@ -34,7 +34,7 @@ fn unjoined(e: u64, d: u64, logs: Logs) -> Answer
     if pressure_fit::is_beyond(edge.fit) {
         return Answer::Judged {
             letter,
-            refusal,
+            number,
             logs,
             edges,
         };
@@ -66,6 +66,6 @@ pub fn pressure(e: u64, d: u64) -> Answer
 {
     match answers::energy_logs(e, d) {
         Ok(logs) => pressure_from(e, d, logs),
-        Err(refusal) => Answer::Refused(refusal),
+        Err(refusal) => Answer::Refused(refusal.number()),
     }
 }

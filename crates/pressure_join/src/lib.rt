@@ -25,7 +25,7 @@ fn line(e: u64, d: u64, logs: Logs, strip: Strip, low: Edge, high: Edge) -> Answ
     if pressure_fit::is_either_beyond(low.fit, high.fit) {
         return Answer::Judged {
             letter,
-            refusal: Refusal::Gamma,
+            number: Refusal::Gamma.number(),
             logs,
             edges,
         };
@@ -52,7 +52,7 @@ pub fn joined(e: u64, d: u64, logs: Logs, strip: Strip) -> Answer
     if pressure_fit::is_either_warned(strip, logs.z) {
         return Answer::Judged {
             letter: b'P',
-            refusal: Refusal::Gamma,
+            number: Refusal::Gamma.number(),
             logs,
             edges: Edges::Unfitted,
         };

@@ -27,7 +27,7 @@ fn unjoined(logs: Logs, edge: Edge) -> Answer
     if temperature_fit::is_beyond(edge.fit) {
         return Answer::Judged {
             letter,
-            refusal: Refusal::TemperatureFit,
+            number: Refusal::TemperatureFit.number(),
             logs,
             edges,
         };
@@ -64,7 +64,7 @@ fn temperature_from(p: u64, d: u64, logs: Logs) -> Answer
     match bands::region_of(logs.y, logs.z) {
         Region::Refused => Answer::Judged {
             letter,
-            refusal: Refusal::OutsideFits,
+            number: Refusal::OutsideFits.number(),
             logs,
             edges,
         },
@@ -86,6 +86,6 @@ pub fn temperature(p: u64, d: u64) -> Answer
 {
     match answers::pressure_logs(p, d) {
         Ok(logs) => temperature_from(p, d, logs),
-        Err(refusal) => Answer::Refused(refusal),
+        Err(refusal) => Answer::Refused(refusal.number()),
     }
 }

@@ -26,7 +26,7 @@ pub fn joined(logs: Logs, strip: Strip) -> Answer
     if temperature_fit::is_either_beyond(low.fit, high.fit) {
         return Answer::Judged {
             letter,
-            refusal: Refusal::TemperatureFit,
+            number: Refusal::TemperatureFit.number(),
             logs,
             edges,
         };

@@ -10,12 +10,14 @@ use Rattle.air.proofs.Sizes.{in_25}
 use Rattle.air.proofs.Tests.{or_left, or_right}
 use Rattle.air_temperature.specs.Temperature.{beyond_fit}
 use Rattle.air_temperature.specs.Property.{kelvin_by}
-use Rattle.temperature_fit.proofs.Passes.{kelvin_in}
+use Rattle.temperature_fit.proofs.Passes.{fit_in_57, kelvin_in}
 use Rattle.temperature_join.proofs.Laws.{refused_is, shown_is}
 use Rattle.temperature_join.proofs.joined.Goals as goal
 
 pub returns-then-is_either_beyond : goal.returns-then-is_either_beyond
-returns-then-is_either_beyond c = refused_is c.args.strip c.args.logs _ _ (search rules) (search rules) (search rules)
+returns-then-is_either_beyond c =
+    let told : c.number.result ≡ 13 = search rules in
+    rw told (refused_is c.args.strip c.args.logs _ _ (search rules) (search rules) (search rules))
 
 pub kelvin_of-requires : goal.kelvin_of-requires
 kelvin_of-requires c =
@@ -36,8 +38,12 @@ straight-value-requires c =
     let stay : (beyond_fit e || beyond_fit f) ≡ false = search rules in
     let low : c.kelvin_of.result ≡ kelvin_by chosen e = search rules in
     let high : c.kelvin_of-2.result ≡ kelvin_by chosen f = search rules in
-    let low_in = in_ok low c.kelvin_of.type_inv (kelvin_in e (or_left (beyond_fit e) (beyond_fit f) stay)) in
-    let high_in = in_ok high c.kelvin_of-2.type_inv (kelvin_in f (or_right (beyond_fit e) (beyond_fit f) stay)) in
+    let low_stays = or_left (beyond_fit e) (beyond_fit f) stay in
+    let high_stays = or_right (beyond_fit e) (beyond_fit f) stay in
+    let low_in = in_ok low c.kelvin_of.type_inv (kelvin_in e low_stays) in
+    let high_in = in_ok high c.kelvin_of-2.type_inv (kelvin_in f high_stays) in
+    let low_fit = in_back {z = e} (search rules) (fit_in_57 e low_stays) in
+    let high_fit = in_back {z = f} (search rules) (fit_in_57 f high_stays) in
     (search rules, (in_back (search rules) (in_25 s.low c.requires.low.y_most), (in_back (search rules) (in_25 s.high c.requires.high.y_most), (search rules, search rules))))
 
 pub returns : goal.returns
