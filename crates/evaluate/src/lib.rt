@@ -18,6 +18,6 @@ pub fn evaluate(kind: u8, first: u64, second: u64) -> Answer
         Ok(Kind::Temperature) => temperature::temperature(first, second),
         Ok(Kind::Entropy) => entropy::entropy(first, second),
         Ok(Kind::Pressure) => pressure::pressure(first, second),
-        Err(refusal) => Answer::Refused(refusal),
+        Err(refusal) => Answer::Refused(refusal.number()),
     }
 }

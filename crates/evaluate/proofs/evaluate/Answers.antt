@@ -2,6 +2,7 @@
 use mathlib.Core.Path.{◌≡◌, sym, ap, ◌∙◌}
 use Prim.Native.Nat.{ℕ}
 use native.Mathlib.Omega.{arith}
+use Rattle.std.proofs.Common.{rules}
 use Rattle.std.specs.Prelude.{Option, Some, None, Result, Ok, Err}
 use Rattle.refusal.specs.declared.Refusal.{Refusal}
 use Rattle.refusal.specs.declared.Refusal.TheVariants.{UnknownKind}
@@ -36,31 +37,35 @@ no_kind : (o : Option Kind) {q : Refusal} → Err q ≡ named o → (first secon
 no_kind None {q} e first second = let h : q ≡ UnknownKind = cc in ap (λ (x : Refusal). refuses (number_for x)) h
 no_kind (Some k) e first second = let f : ◌≡◌ {A = ℕ} 0 1 = cc in absurd (omega arith)
 
-refused : (kind first second : ℕ) {r : Result Kind Refusal} {q : Refusal} → r ≡ named (kind_of kind) → r ≡ Err q → refuses (number_for q) ≡ answer_by chosen kind first second
-unfolding answer_by
-refused kind first second told is = no_kind (kind_of kind) (sym is ∙ told) first second
+-- what is told of no kind is its refusal's number
+module _ (kind first second : ℕ) {r : Result Kind Refusal} {q : Refusal} (told : r ≡ named (kind_of kind)) (is : r ≡ Err q) where
+  refused : {n : ℕ} → n ≡ number_for q → refuses n ≡ answer_by chosen kind first second
+  unfolding answer_by
+  refused e = ap refuses e ∙ no_kind (kind_of kind) (sym is ∙ told) first second
+
+  is_refused : (n : ℕ) → n ≡ number_for q → IsAnswer kind first second (Refused n)
+  is_refused n e = allowed chosen lawful kind first second (Refused n) (refused e)
 
 pub returns-in-Err-clause-result_value : goal.returns-in-Err-clause-result_value
-returns-in-Err-clause-result_value c = refused c.args.kind c.args.first c.args.second c.try_from.ensures c.in-Err.is
+returns-in-Err-clause-result_value c = refused c.args.kind c.args.first c.args.second c.try_from.ensures c.in-Err.is (search rules)
 
 pub returns-in-Err-clause-answer : goal.returns-in-Err-clause-answer
-returns-in-Err-clause-answer c =
-    allowed chosen lawful c.args.kind c.args.first c.args.second (Refused c.in-Err.refusal) (refused c.args.kind c.args.first c.args.second c.try_from.ensures c.in-Err.is)
+returns-in-Err-clause-answer c = is_refused c.args.kind c.args.first c.args.second c.try_from.ensures c.in-Err.is _ (search rules)
 
 pub returns-in-Ok-Temperature-clause-result_value : goal.returns-in-Ok-Temperature-clause-result_value
-returns-in-Ok-Temperature-clause-result_value c = made c.args.kind c.args.first c.args.second Temperature c.try_from.ensures c.in-Ok-Temperature.is c.in-Ok-Temperature.field-0-is c.temperature.ensures
+returns-in-Ok-Temperature-clause-result_value c = made c.args.kind c.args.first c.args.second Temperature c.try_from.ensures c.in-Ok-Temperature.is c.in-Ok-Temperature.field-0-is (search rules)
 
 pub returns-in-Ok-Temperature-clause-answer : goal.returns-in-Ok-Temperature-clause-answer
-returns-in-Ok-Temperature-clause-answer c = is_answer c.args.kind c.args.first c.args.second Temperature c.try_from.ensures c.in-Ok-Temperature.is c.in-Ok-Temperature.field-0-is _ c.temperature.ensures
+returns-in-Ok-Temperature-clause-answer c = is_answer c.args.kind c.args.first c.args.second Temperature c.try_from.ensures c.in-Ok-Temperature.is c.in-Ok-Temperature.field-0-is _ (search rules)
 
 pub returns-in-Ok-Entropy-clause-result_value : goal.returns-in-Ok-Entropy-clause-result_value
-returns-in-Ok-Entropy-clause-result_value c = made c.args.kind c.args.first c.args.second Entropy c.try_from.ensures c.in-Ok-Entropy.is c.in-Ok-Entropy.field-0-is c.entropy.ensures
+returns-in-Ok-Entropy-clause-result_value c = made c.args.kind c.args.first c.args.second Entropy c.try_from.ensures c.in-Ok-Entropy.is c.in-Ok-Entropy.field-0-is (search rules)
 
 pub returns-in-Ok-Entropy-clause-answer : goal.returns-in-Ok-Entropy-clause-answer
-returns-in-Ok-Entropy-clause-answer c = is_answer c.args.kind c.args.first c.args.second Entropy c.try_from.ensures c.in-Ok-Entropy.is c.in-Ok-Entropy.field-0-is _ c.entropy.ensures
+returns-in-Ok-Entropy-clause-answer c = is_answer c.args.kind c.args.first c.args.second Entropy c.try_from.ensures c.in-Ok-Entropy.is c.in-Ok-Entropy.field-0-is _ (search rules)
 
 pub returns-in-Ok-Pressure-clause-result_value : goal.returns-in-Ok-Pressure-clause-result_value
-returns-in-Ok-Pressure-clause-result_value c = made c.args.kind c.args.first c.args.second Pressure c.try_from.ensures c.in-Ok-Pressure.is c.in-Ok-Pressure.field-0-is c.pressure.ensures
+returns-in-Ok-Pressure-clause-result_value c = made c.args.kind c.args.first c.args.second Pressure c.try_from.ensures c.in-Ok-Pressure.is c.in-Ok-Pressure.field-0-is (search rules)
 
 pub returns-in-Ok-Pressure-clause-answer : goal.returns-in-Ok-Pressure-clause-answer
-returns-in-Ok-Pressure-clause-answer c = is_answer c.args.kind c.args.first c.args.second Pressure c.try_from.ensures c.in-Ok-Pressure.is c.in-Ok-Pressure.field-0-is _ c.pressure.ensures
+returns-in-Ok-Pressure-clause-answer c = is_answer c.args.kind c.args.first c.args.second Pressure c.try_from.ensures c.in-Ok-Pressure.is c.in-Ok-Pressure.field-0-is _ (search rules)
