@@ -2,13 +2,11 @@
 #![tactic(auto)]
 
 ghost use Rattle.std.specs.Prelude.{◌≡◌, ◌≤◌, length, drop};
-ghost use Rattle.refusal.specs.Numbered.{numbered};
 ghost use Rattle.sheet_record.specs.Layout.{layout_in};
 ghost use Rattle.sheet_record.specs.Front.{Whole};
 ghost use Rattle.sheet_search.specs.Find.{Inside};
 ghost use Rattle.sheet_remark.specs.Remark.{remark_at, remark_of, RemarkInside};
 
-use refusal::Refusal;
 use sheet_record::Record;
 
 // A part of a sheet, as C is given it.
@@ -34,12 +32,12 @@ fn remark_at(s: &[u8], end: usize) -> Part
     }
 }
 
-// The remark of what was found, which lies in the sheet.
+// The remark of what was found, which lies in the sheet, or the number that refuses, any number.
 #[tactic(auto, using(crate::proofs::Remarks::remark_inside))]
-pub fn remark_of(s: &[u8], found: Result<Record, Refusal>) -> Result<Part, Refusal>
-    requires { Inside s.now (numbered found) }
-    ensures value { numbered result ≡ remark_of s.now (numbered found) }
-    ensures remark_inside { RemarkInside s.now (numbered result) }
+pub fn remark_of(s: &[u8], found: Result<Record, u32>) -> Result<Part, u32>
+    requires { Inside s.now found }
+    ensures value { result ≡ remark_of s.now found }
+    ensures remark_inside { RemarkInside s.now result }
 {
     let r = found?;
     Ok(remark_at(s, r.start + r.len + 17))

@@ -29,10 +29,10 @@ pub fn has(sheet: &Sheet, name: &[u8]) -> bool
     sheet.place_of(name).is_some()
 }
 
-// The found name's own bytes in the sheet, or none.
-pub fn handed_back<'a>(s: &'a [u8], found: Result<Record, Refusal>) -> &'a [u8]
-    requires { Inside s.now (numbered found) }
-    ensures { result.now ≡ handed_back s.now (numbered found) }
+// The found name's own bytes in the sheet, or none where a number refuses, any number.
+pub fn handed_back<'a>(s: &'a [u8], found: Result<Record, u32>) -> &'a [u8]
+    requires { Inside s.now found }
+    ensures { result.now ≡ handed_back s.now found }
 {
     match found {
         Ok(r) => &s[r.start..r.start + r.len],
