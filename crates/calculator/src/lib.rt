@@ -43,7 +43,7 @@ fn answer_at(found: Result<Record, Refusal>) -> Answer
     ensures { held result ≡ answer_at chosen (numbered found) }
 {
     match found {
-        Err(refusal) => Answer::Refused(refusal),
+        Err(refusal) => Answer::Refused(refusal.number()),
         Ok(record) => evaluate::evaluate(record.kind, record.first, record.second),
     }
 }
@@ -68,13 +68,13 @@ pub fn search(sheet: &[u8], spelled: &[u8]) -> Answer
 pub fn found_name<'a, 'b>(sheet: &'a [u8], spelled: &'b [u8]) -> &'a [u8]
     ensures { result.now ≡ found_name sheet.now spelled.now }
 {
-    sheet_search::handed_back(sheet, locate(sheet, spelled))
+    sheet_search::handed_back(sheet, refusal::by_number(locate(sheet, spelled)))
 }
 
 // The remark of the record that a search finds, as the part of the sheet that holds it.
-pub fn found_remark(sheet: &[u8], spelled: &[u8]) -> Result<Part, Refusal>
-    ensures value { numbered result ≡ remark_of sheet.now (locate sheet.now spelled.now) }
-    ensures remark_inside { RemarkInside sheet.now (numbered result) }
+pub fn found_remark(sheet: &[u8], spelled: &[u8]) -> Result<Part, u32>
+    ensures value { result ≡ remark_of sheet.now (locate sheet.now spelled.now) }
+    ensures remark_inside { RemarkInside sheet.now result }
 {
-    sheet_remark::remark_of(sheet, locate(sheet, spelled))
+    sheet_remark::remark_of(sheet, refusal::by_number(locate(sheet, spelled)))
 }

@@ -3,12 +3,10 @@
 
 ghost use Rattle.std.specs.Prelude.{◌≡◌};
 ghost use Rattle.std.specs.Int.Signed.{shr_z};
-ghost use Rattle.refusal.specs.Numbered.{numbered};
 ghost use Rattle.air.specs.Held.{held};
 ghost use Rattle.mark.specs.Mark.{point_of, shown_value, mark_of, Drawable, CanDraw};
 
 use air::Answer;
-use refusal::Refusal;
 
 // Two doubles.
 #[repr(C)]
@@ -46,14 +44,14 @@ fn shown_value(letter: u8, v: i64) -> i64
     if letter == b'P' { millionth(v) } else { v }
 }
 
-// The mark of an answer: a point, or a blank with its refusal.
-pub fn mark_of(a: Answer) -> Result<Point, Refusal>
+// The mark of an answer: a point, or a blank with the number of its refusal.
+pub fn mark_of(a: Answer) -> Result<Point, u32>
     requires { CanDraw (held a) }
-    ensures { numbered result ≡ mark_of (held a) }
+    ensures { result ≡ mark_of (held a) }
 {
     match a {
-        Answer::Refused(refusal) => Err(refusal),
-        Answer::Judged { refusal, .. } => Err(refusal),
+        Answer::Refused(number) => Err(number),
+        Answer::Judged { number, .. } => Err(number),
         Answer::Shows {
             letter,
             logs,

@@ -6,7 +6,7 @@ use Rattle.calculator.proofs.found_name.Goals as goal
 
 pub handed_back-requires : goal.handed_back-requires
 handed_back-requires c =
-    subst (Inside c.args.sheet.now) (sym c.locate.ensures) (locate_inside c.args.sheet.now c.args.spelled.now)
+    subst (Inside c.args.sheet.now) (sym (c.by_number.ensures ∙ c.locate.ensures)) (locate_inside c.args.sheet.now c.args.spelled.now)
 
 pub returns : goal.returns
-returns c = c.handed_back.ensures ∙ ap (handed_back c.args.sheet.now) c.locate.ensures
+returns c = c.handed_back.ensures ∙ ap (handed_back c.args.sheet.now) (c.by_number.ensures ∙ c.locate.ensures)
