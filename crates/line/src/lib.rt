@@ -3,7 +3,6 @@
 
 ghost use Rattle.std.specs.Prelude.{◌≡◌, ◌+◌, ◌≤◌, [], ◌∷◌, ◌++◌, true, length};
 ghost use Rattle.arrayvec.specs.ArrayVec.{array_vec_len};
-ghost use Rattle.refusal.specs.Numbered.{number_for};
 ghost use Rattle.air.specs.Held.{held};
 ghost use Rattle.decimal.specs.Decimal.{whole};
 ghost use Rattle.name.specs.Name.{is_length};
@@ -12,20 +11,19 @@ ghost use Rattle.line.specs.Line.{value_rest, refusal_rest, line_of, line};
 
 use air::{Answer, Logs};
 use arrayvec::ArrayVec;
-use refusal::Refusal;
 
 // The text of a line, which fits 192 bytes.
 pub type Line = ArrayVec<u8, 192>;
 
 // Puts what follows the name of a refused one.
 #[tactic(auto, using(decimal::proofs::Texts::natural_short), unfolding(crate::specs::Line::refusal_rest))]
-fn put_refusal(line: &mut Line, refusal: Refusal)
+fn put_refusal(line: &mut Line, number: u32)
     requires { array_vec_len line.old ≤ 120 }
-    ensures text { line.new.items ≡ line.old.items ++ refusal_rest (number_for refusal) }
+    ensures text { line.new.items ≡ line.old.items ++ refusal_rest number }
     ensures len_bound { array_vec_len line.new ≤ array_vec_len line.old + 66 }
 {
     line.try_extend_from_slice(b" ! ").unwrap();
-    decimal::put_natural(line, u64::from(refusal.number()));
+    decimal::put_natural(line, u64::from(number));
     line.push(b'\n');
 }
 
@@ -62,8 +60,8 @@ pub fn build(name: &[u8], answer: Answer) -> Line
     let mut line = Line::new();
     line.try_extend_from_slice(name).unwrap();
     match answer {
-        Answer::Refused(refusal) | Answer::Judged { refusal, .. } => {
-            put_refusal(&mut line, refusal);
+        Answer::Refused(number) | Answer::Judged { number, .. } => {
+            put_refusal(&mut line, number);
         }
         Answer::Shows {
             letter,

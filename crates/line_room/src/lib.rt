@@ -3,7 +3,7 @@
 
 ghost use Rattle.std.specs.Prelude.{◌++◌, ◌≡◌, ◌+◌, ◌≤◌, length};
 ghost use Rattle.arrayvec.specs.ArrayVec.{array_vec_len};
-ghost use Rattle.refusal.specs.Numbered.{number_for, numbered};
+ghost use Rattle.refusal.specs.Numbered.{numbered};
 ghost use Rattle.line.specs.Line.{refusal_rest};
 ghost use Rattle.octets.specs.Room.{fitting, written, put_at, outcome_of};
 
@@ -28,12 +28,12 @@ pub fn append(line: &Line, out: &mut [u8], at: usize) -> usize
     octets::append(line, out, at)
 }
 
-// The line that refuses a whole sheet or list, in lent room.
-pub fn put_refused(word: &[u8], refusal: Refusal, out: &mut [u8]) -> Result<usize, Refusal>
+// The line that refuses a whole sheet or list by a number, any number, in lent room.
+pub fn put_refused(word: &[u8], number: u32, out: &mut [u8]) -> Result<usize, Refusal>
     requires { length word.now ≤ 120 }
-    ensures number_in_bounds { length (word.now ++ refusal_rest (number_for refusal)) ≤ length word.now + 66 }
-    ensures value { numbered result ≡ outcome_of (fitting (length out.old) (word.now ++ refusal_rest (number_for refusal))) }
-    ensures out_after { out.new ≡ written (fitting (length out.old) (word.now ++ refusal_rest (number_for refusal))) out.old }
+    ensures number_in_bounds { length (word.now ++ refusal_rest number) ≤ length word.now + 66 }
+    ensures value { numbered result ≡ outcome_of (fitting (length out.old) (word.now ++ refusal_rest number)) }
+    ensures out_after { out.new ≡ written (fitting (length out.old) (word.now ++ refusal_rest number)) out.old }
 {
-    put_line(&line::build(word, Answer::Refused(refusal)), out)
+    put_line(&line::build(word, Answer::Refused(number)), out)
 }

@@ -40,6 +40,7 @@ use Rattle.calculator.proofs.Demand3.{search_allowed}
 use Rattle.line.specs.Line.{line}
 use Rattle.name_list.specs.Lines.{lines_of}
 use Rattle.refusal.specs.declared.Refusal.TheVariants.{UnknownKind, FirstValue, SecondValue, OutsideFits, TemperatureFit, Gamma}
+use Rattle.refusal.specs.Numbered.{number_for}
 use Rattle.report.proofs.Named.{Named, by, LookupNamed, is_err, is_ok, located}
 use Rattle.report.specs.Listing.{lines_by, listing_by, Lines, done, next, IsListing}
 
@@ -49,7 +50,7 @@ pub record Holder (h : Held) : Type 0 where
   pub holds : held answer ≡ h
 
 refusal : {n : ℕ} → Named n → Holder (refuses n)
-refusal {n} r = record { answer = a.Refused r.refusal; holds = ap refuses r.is }
+refusal {n} r = record { answer = a.Refused (number_for r.refusal); holds = ap refuses r.is }
 
 either : {x y : Held} (b : Bool) → Holder x → Holder y → Holder (cond b x y)
 either true p q = p
@@ -61,7 +62,7 @@ in_range true false p = refusal (by SecondValue)
 in_range false second p = refusal (by FirstValue)
 
 judged : {n k : ℕ} {l : Logs} {e : Edges} → Named n → Holder (judges n k l e)
-judged {n} {k} {l} {e} r = record { answer = Judged k r.refusal l e; holds = ap (λ (m : ℕ). judges m k l e) r.is }
+judged {n} {k} {l} {e} r = record { answer = Judged k (number_for r.refusal) l e; holds = ap (λ (m : ℕ). judges m k l e) r.is }
 
 shown : {k : ℕ} {l : Logs} {e : Edges} {s : rust.Option Ends} {v : ℤ} → Holder (shows k l e s v)
 shown = record { answer = Shows _ _ _ _ _; holds = refl }

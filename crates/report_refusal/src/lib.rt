@@ -35,10 +35,14 @@ pub fn begin<'a>(
 {
     let sheet = match sheet::index(sheet, room) {
         Ok(sheet) => sheet,
-        Err(refusal) => return Ok(Begun::Refused(line_room::put_refused(b"sheet", refusal, out)?)),
+        Err(refusal) => {
+            let n = line_room::put_refused(b"sheet", refusal.number(), out)?;
+            return Ok(Begun::Refused(n));
+        }
     };
     if 65536 < list.len() {
-        return Ok(Begun::Refused(line_room::put_refused(b"list", Refusal::ListTooLong, out)?));
+        let n = line_room::put_refused(b"list", Refusal::ListTooLong.number(), out)?;
+        return Ok(Begun::Refused(n));
     }
     Ok(Begun::Lines(sheet))
 }
