@@ -105,14 +105,14 @@ pub fn flatten(a: Answer) -> CAnswer
     ensures { result ≡ flat (held a) }
 {
     match a {
-        Answer::Refused(refusal) => {
+        Answer::Refused(number) => {
             let none = CEdge {
                 fit: 0,
                 weight: 0,
                 value: 0,
             };
             CAnswer {
-                number: refusal.number(),
+                number,
                 letter: 0,
                 carries: 0,
                 x: 0,
@@ -125,17 +125,10 @@ pub fn flatten(a: Answer) -> CAnswer
         }
         Answer::Judged {
             letter,
-            refusal,
+            number,
             logs,
             edges,
-        } => assemble(
-            refusal.number(),
-            letter,
-            logs,
-            flat_edges(edges, 0, 0),
-            0,
-            0,
-        ),
+        } => assemble(number, letter, logs, flat_edges(edges, 0, 0), 0, 0),
         Answer::Shows {
             letter,
             logs,

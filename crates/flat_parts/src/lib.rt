@@ -2,7 +2,7 @@
 #![tactic(auto)]
 
 ghost use Rattle.std.specs.Prelude.{◌≡◌};
-ghost use Rattle.refusal.specs.Numbered.{numbered, number_or_0};
+ghost use Rattle.refusal.specs.Numbered.{number_or_0};
 ghost use Rattle.flat_parts.specs.Flat.{flat_found, flat_remark, flat_text, flat_mark};
 
 use mark::Point;
@@ -63,22 +63,19 @@ pub fn flatten_check(checked: Result<(), Refusal>) -> u32
 
 // A text's length or refusal as C takes it.
 #[tactic(auto, unfolding(crate::specs::Flat::flat_text))]
-pub fn flatten_text(text: Result<usize, Refusal>) -> CText
-    ensures { result ≡ flat_text (numbered text) }
+pub fn flatten_text(text: Result<usize, u32>) -> CText
+    ensures { result ≡ flat_text text }
 {
     match text {
-        Err(refusal) => CText {
-            number: refusal.number(),
-            length: 0,
-        },
+        Err(number) => CText { number, length: 0 },
         Ok(length) => CText { number: 0, length },
     }
 }
 
 // A mark as C takes it.
 #[tactic(auto, unfolding(crate::specs::Flat::flat_mark))]
-pub fn flatten_mark(mark: Result<Point, Refusal>) -> CMark
-    ensures { result ≡ flat_mark (numbered mark) }
+pub fn flatten_mark(mark: Result<Point, u32>) -> CMark
+    ensures { result ≡ flat_mark mark }
 {
     match mark {
         Ok(point) => CMark {
@@ -88,8 +85,8 @@ pub fn flatten_mark(mark: Result<Point, Refusal>) -> CMark
                 up: point.up,
             },
         },
-        Err(refusal) => CMark {
-            blank: refusal.number(),
+        Err(number) => CMark {
+            blank: number,
             point: CPoint {
                 across: 0.0,
                 up: 0.0,
@@ -100,12 +97,12 @@ pub fn flatten_mark(mark: Result<Point, Refusal>) -> CMark
 
 // A found record as C takes it.
 #[tactic(auto, unfolding(crate::specs::Flat::flat_found))]
-pub fn flatten_found(found: Result<Record, Refusal>) -> CRecord
-    ensures { result ≡ flat_found (numbered found) }
+pub fn flatten_found(found: Result<Record, u32>) -> CRecord
+    ensures { result ≡ flat_found found }
 {
     match found {
-        Err(refusal) => CRecord {
-            number: refusal.number(),
+        Err(number) => CRecord {
+            number,
             kind: 0,
             first: 0,
             second: 0,
@@ -125,12 +122,12 @@ pub fn flatten_found(found: Result<Record, Refusal>) -> CRecord
 
 // A remark as C takes it.
 #[tactic(auto, unfolding(crate::specs::Flat::flat_remark))]
-pub fn flatten_remark(remark: Result<Part, Refusal>) -> CPart
-    ensures { result ≡ flat_remark (numbered remark) }
+pub fn flatten_remark(remark: Result<Part, u32>) -> CPart
+    ensures { result ≡ flat_remark remark }
 {
     match remark {
-        Err(refusal) => CPart {
-            number: refusal.number(),
+        Err(number) => CPart {
+            number,
             start: 0,
             length: 0,
         },
