@@ -2,6 +2,7 @@
 #![tactic(auto)]
 
 ghost use Rattle.std.specs.Prelude.{◌≡◌, ◌+◌, ◌≤◌, length};
+ghost use Rattle.refusal.specs.Numbered.{numbered};
 ghost use Rattle.octets.specs.Room.{written, outcome_of};
 ghost use Rattle.name.specs.Name.{spelling_of};
 ghost use Rattle.sheet.specs.Sheet.{sheet_of, number_of};
@@ -24,7 +25,22 @@ use air::Answer;
 use flat::CAnswer;
 use flat_parts::{CMark, CPart, CRecord, CText};
 use refusal::Refusal;
+use sheet_record::Record;
 use walk::{Begun, Step, Walk};
+
+// A text's length or refusal as C takes it, by its number.
+fn text_for_c(text: Result<usize, Refusal>) -> CText
+    ensures { result ≡ flat_text (numbered text) }
+{
+    flat_parts::flatten_text(refusal::by_number(text))
+}
+
+// A found record or a refusal as C takes it, by its number.
+fn record_for_c(found: Result<Record, Refusal>) -> CRecord
+    ensures { result ≡ flat_found (numbered found) }
+{
+    flat_parts::flatten_found(refusal::by_number(found))
+}
 
 // The sheet's number, for C: 0, 1 to 6, 16.
 #[unsafe(no_mangle)]
@@ -40,7 +56,7 @@ pub extern "C" fn eas_find(sheet: &[u8], spelled: &[u8]) -> CRecord
     ensures value { result ≡ flat_found (locate sheet.now spelled.now) }
     ensures length_in_bounds { result.start + result.length ≤ length sheet.now }
 {
-    flat_parts::flatten_found(calculator::locate(sheet, spelled))
+    record_for_c(calculator::locate(sheet, spelled))
 }
 
 // The remark of a spelled name's record, as the part of the sheet that holds it. That its bytes stand there is `FoundRemark` (c_laws/specs/Remarks).
@@ -58,7 +74,7 @@ pub extern "C" fn eas_record_at(sheet: &[u8], i: usize) -> CRecord
     ensures value { result ≡ flat_found (record_of sheet.now i) }
     ensures length_in_bounds { result.start + result.length ≤ length sheet.now }
 {
-    flat_parts::flatten_found(sheet_walk::record_at(sheet, i))
+    record_for_c(sheet_walk::record_at(sheet, i))
 }
 
 // The answer for a spelled name. Demand 3 of it is `FlatDemand3` (c_laws/specs/Demand3).
@@ -78,7 +94,7 @@ pub extern "C" fn eas_evaluate(kind: u32, first: u64, second: u64) -> CAnswer
 {
     match u8::try_from(kind) {
         Ok(byte) => flat::flatten(evaluate::evaluate(byte, first, second)),
-        Err(_) => flat::flatten(Answer::Refused(Refusal::UnknownKind)),
+        Err(_) => flat::flatten(Answer::Refused(Refusal::UnknownKind.number())),
     }
 }
 
@@ -98,7 +114,7 @@ pub extern "C" fn eas_line(sheet: &[u8], spelled: &[u8], out: &mut [u8]) -> CTex
     ensures out_after { out.new ≡ written (line_in (length out.old) sheet.now spelled.now) out.old }
     ensures flat_line { IsFlatLine sheet.now spelled.now out.old out.new result }
 {
-    flat_parts::flatten_text(report::line(sheet, spelled, out))
+    text_for_c(report::line(sheet, spelled, out))
 }
 
 // The whole listing of spelled names, one a line, in lent room. How much room is enough is `ListingFits` (c_laws/specs/Texts).
@@ -108,7 +124,7 @@ pub extern "C" fn eas_list(sheet: &[u8], names: &[u8], out: &mut [u8]) -> CText
     ensures out_after { out.new ≡ written (listing_in (length out.old) sheet.now names.now) out.old }
     ensures flat_listing { IsFlatListing sheet.now names.now out.old out.new result }
 {
-    flat_parts::flatten_text(run_list::listing(sheet, names, out))
+    text_for_c(run_list::listing(sheet, names, out))
 }
 
 // Spells a raw name into lent room.
@@ -117,7 +133,7 @@ pub extern "C" fn eas_spell(name: &[u8], out: &mut [u8]) -> CText
     ensures value { result ≡ flat_text (outcome_of (spelling_of name.now (length out.old))) }
     ensures out_after { out.new ≡ written (spelling_of name.now (length out.old)) out.old }
 {
-    flat_parts::flatten_text(name_writer::spell(name, out))
+    text_for_c(name_writer::spell(name, out))
 }
 
 // Reads a spelling into lent room.
@@ -126,7 +142,7 @@ pub extern "C" fn eas_read(spelled: &[u8], out: &mut [u8]) -> CText
     ensures value { result ≡ flat_text (outcome_of (read_in (length out.old) spelled.now)) }
     ensures out_after { out.new ≡ written (read_in (length out.old) spelled.now) out.old }
 {
-    flat_parts::flatten_text(name_room::read(spelled, out))
+    text_for_c(name_room::read(spelled, out))
 }
 
 // A sheet of version 1 in version 2, with empty remarks, in lent room. What is kept of the sheet is `FlatForward` (c_laws/specs/Converted).
@@ -135,7 +151,7 @@ pub extern "C" fn eas_forward(sheet: &[u8], out: &mut [u8]) -> CText
     ensures value { result ≡ flat_text (outcome_of (forward sheet.now (length out.old))) }
     ensures out_after { out.new ≡ written (forward sheet.now (length out.old)) out.old }
 {
-    flat_parts::flatten_text(convert::forward(sheet, out))
+    text_for_c(convert::forward(sheet, out))
 }
 
 // A sheet of version 2 whose remarks are empty in version 1, in lent room. What is kept of the sheet is `FlatBack` (c_laws/specs/Converted).
@@ -144,7 +160,7 @@ pub extern "C" fn eas_back(sheet: &[u8], out: &mut [u8]) -> CText
     ensures value { result ≡ flat_text (outcome_of (back sheet.now (length out.old))) }
     ensures out_after { out.new ≡ written (back sheet.now (length out.old)) out.old }
 {
-    flat_parts::flatten_text(convert::back(sheet, out))
+    text_for_c(convert::back(sheet, out))
 }
 
 // A walk over the records that a sheet has now.
@@ -179,5 +195,5 @@ pub extern "C" fn eas_add(
     ensures value { result ≡ flat_text (outcome_of (added sheet.now spelled.now kind first second (length out.old))) }
     ensures out_after { out.new ≡ written (added sheet.now spelled.now kind first second (length out.old)) out.old }
 {
-    flat_parts::flatten_text(append::add(sheet, spelled, kind, first, second, out))
+    text_for_c(append::add(sheet, spelled, kind, first, second, out))
 }

@@ -5,4 +5,4 @@ use Rattle.airstate.proofs.eas_add.Goals as goal
 
 pub returns : goal.returns
 returns c =
-    record { value = c.flatten_text.ensures ∙ ap flat_text c.add.ensures.value; out_after = c.add.ensures.out_after }
+    record { value = c.text_for_c.ensures ∙ ap flat_text c.add.ensures.value; out_after = c.add.ensures.out_after }

@@ -23,8 +23,8 @@ no_byte : (c : In-Err) → 255 < c.args.kind
 no_byte c = search rules
 
 pub returns-in-Err-clause-value : goal.returns-in-Err-clause-value
-returns-in-Err-clause-value c = c.flatten-in-Err.ensures ∙ ap flat (no_answer c.args.kind c.args.first c.args.second (no_byte (goal.at.returns-in-Err-clause-value c).In-Err))
+returns-in-Err-clause-value c = c.flatten-in-Err.ensures ∙ ap (λ (n : ℕ). flat (refuses n)) (search rules) ∙ ap flat (no_answer c.args.kind c.args.first c.args.second (no_byte (goal.at.returns-in-Err-clause-value c).In-Err))
 
 pub returns-in-Err-clause-flat_answer : goal.returns-in-Err-clause-flat_answer
 returns-in-Err-clause-flat_answer c =
-    answer_made _ _ _ _ (c.flatten-in-Err.ensures ∙ ap flat (no_answer c.args.kind c.args.first c.args.second (no_byte (goal.at.returns-in-Err-clause-flat_answer c).In-Err)))
+    answer_made _ _ _ _ (c.flatten-in-Err.ensures ∙ ap (λ (n : ℕ). flat (refuses n)) (search rules) ∙ ap flat (no_answer c.args.kind c.args.first c.args.second (no_byte (goal.at.returns-in-Err-clause-flat_answer c).In-Err)))

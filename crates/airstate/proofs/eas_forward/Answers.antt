@@ -5,4 +5,4 @@ use Rattle.airstate.proofs.eas_forward.Goals as goal
 
 pub returns : goal.returns
 returns c =
-    record { value = c.flatten_text.ensures ∙ ap flat_text c.forward.ensures.value; out_after = c.forward.ensures.out_after }
+    record { value = c.text_for_c.ensures ∙ ap flat_text c.forward.ensures.value; out_after = c.forward.ensures.out_after }

@@ -6,5 +6,5 @@ use Rattle.airstate.proofs.eas_line.Goals as goal
 
 pub returns : goal.returns
 returns c =
-    let e = c.flatten_text.ensures ∙ ap flat_text c.line.ensures.value in
+    let e = c.text_for_c.ensures ∙ ap flat_text c.line.ensures.value in
     record { value = e; out_after = c.line.ensures.out_after; flat_line = line_made _ _ _ _ _ e c.line.ensures.out_after }

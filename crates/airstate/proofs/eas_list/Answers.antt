@@ -6,5 +6,5 @@ use Rattle.airstate.proofs.eas_list.Goals as goal
 
 pub returns : goal.returns
 returns c =
-    let e = c.flatten_text.ensures ∙ ap flat_text c.listing.ensures.value in
+    let e = c.text_for_c.ensures ∙ ap flat_text c.listing.ensures.value in
     record { value = e; out_after = c.listing.ensures.out_after; flat_listing = listing_made _ _ _ _ _ e c.listing.ensures.out_after }

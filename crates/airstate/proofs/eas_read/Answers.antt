@@ -5,4 +5,4 @@ use Rattle.airstate.proofs.eas_read.Goals as goal
 
 pub returns : goal.returns
 returns c =
-    record { value = c.flatten_text.ensures ∙ ap flat_text c.read.ensures.value; out_after = c.read.ensures.out_after }
+    record { value = c.text_for_c.ensures ∙ ap flat_text c.read.ensures.value; out_after = c.read.ensures.out_after }

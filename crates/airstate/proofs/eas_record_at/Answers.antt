@@ -12,5 +12,5 @@ pub returns : goal.returns
 returns c =
     let a = c.args in
     let s = a.sheet.now in
-    let e = c.flatten_found.ensures ∙ ap flat_found c.record_at.ensures in
+    let e = c.record_for_c.ensures ∙ ap flat_found c.record_at.ensures in
     record { value = e; length_in_bounds = subst (λ (p : CRecord). p.start + p.length ≤ length s) (sym e) (found_inside s _ (numbered_inside s a.i)) }

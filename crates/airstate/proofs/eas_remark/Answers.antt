@@ -2,7 +2,6 @@
 use mathlib.Core.Path.{sym, ap, subst, ◌∙◌}
 use Prim.Native.Nat.{◌+◌, ◌≤◌}
 use lib.ListN.{length}
-use Rattle.refusal.specs.Numbered.{numbered}
 use Rattle.flat_parts.specs.declared.CPart.{CPart}
 use Rattle.flat_parts.specs.Flat.{flat_remark}
 use Rattle.flat_parts.proofs.FoundPart.{remark_part}
@@ -13,4 +12,4 @@ returns c =
     let s = c.args.sheet.now in
     let e = c.flatten_remark.ensures in
     let m = c.found_remark in
-    record { value = e ∙ ap flat_remark m.ensures.value; length_in_bounds = subst (λ (p : CPart). p.start + p.length ≤ length s) (sym e) (remark_part s (numbered m.result) m.ensures.remark_inside) }
+    record { value = e ∙ ap flat_remark m.ensures.value; length_in_bounds = subst (λ (p : CPart). p.start + p.length ≤ length s) (sym e) (remark_part s m.result m.ensures.remark_inside) }

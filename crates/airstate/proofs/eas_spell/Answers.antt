@@ -5,4 +5,4 @@ use Rattle.airstate.proofs.eas_spell.Goals as goal
 
 pub returns : goal.returns
 returns c =
-    record { value = c.flatten_text.ensures ∙ ap flat_text c.spell.ensures.value; out_after = c.spell.ensures.out_after }
+    record { value = c.text_for_c.ensures ∙ ap flat_text c.spell.ensures.value; out_after = c.spell.ensures.out_after }
