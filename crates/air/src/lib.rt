@@ -31,7 +31,7 @@ pub struct Ends {
 // them, behind the shorter fields, so that an answer is handed on in whole words.
 #[derive(Clone, Copy)]
 pub enum Answer {
-    // A refusal's number alone. Any number, since C's callers hand in any.
+    // A refusal's number alone: whoever takes an answer takes any number.
     Refused(u32),
     // A refusal with what it was judged by: 12, 13, 17.
     Judged {
