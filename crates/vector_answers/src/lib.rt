@@ -54,13 +54,13 @@ fn columns(logs: Logs, edges: Edges, ends: Option<Ends>, value: i64) -> [i64; 10
 // An answer: the refusal's number or 0, the letter or 0, the columns.
 pub fn answer(rt: &impl Print, answer: Answer) {
     let (number, letter, columns) = match answer {
-        Answer::Refused(refusal) => (refusal.number(), b'0', [0; 10]),
+        Answer::Refused(number) => (number, b'0', [0; 10]),
         Answer::Judged {
             letter,
-            refusal,
+            number,
             logs,
             edges,
-        } => (refusal.number(), letter, columns(logs, edges, None, 0)),
+        } => (number, letter, columns(logs, edges, None, 0)),
         Answer::Shows {
             letter,
             logs,

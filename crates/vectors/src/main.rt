@@ -72,7 +72,7 @@ fn says(rt: &impl Print, found: Result<Record, Refusal>) {
 }
 
 // Where a remark stands.
-fn tells(rt: &impl Print, remark: Result<Part, Refusal>) {
+fn tells(rt: &impl Print, remark: Result<Part, u32>) {
     if let Ok(p) = remark {
         let _ = print!(rt; " remark at {} length {}", p.start, p.len);
     }
