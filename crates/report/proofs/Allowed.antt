@@ -7,6 +7,7 @@ use mathlib.Core.List.{List, [], ◌∷◌, ◌++◌}
 use mathlib.Core.Path.{◌≡◌, refl, ap, subst}
 use Prim.Native.Nat.{ℕ}
 use lib.IntN.{ℤ}
+use native.Mathlib.Omega.{arith}
 use Rattle.sheet_search.specs.Find.{Lookup}
 use Rattle.air.specs.declared.Answer.{Answer}
 use Rattle.air.specs.declared.Answer.TheVariants.{Judged, Shows}
@@ -41,16 +42,18 @@ use Rattle.line.specs.Line.{line}
 use Rattle.name_list.specs.Lines.{lines_of}
 use Rattle.refusal.specs.declared.Refusal.TheVariants.{UnknownKind, FirstValue, SecondValue, OutsideFits, TemperatureFit, Gamma}
 use Rattle.refusal.specs.Numbered.{number_for}
+use Rattle.report.specs.Named.{ValueOrNamed}
 use Rattle.report.proofs.Named.{Named, by, LookupNamed, is_err, is_ok, located}
 use Rattle.report.specs.Listing.{lines_by, listing_by, Lines, done, next, IsListing}
 
--- an answer that holds h
+-- an answer that holds h, which has a value or the number of a refusal
 pub record Holder (h : Held) : Type 0 where
   pub answer : Answer
   pub holds : held answer ≡ h
+  pub named : ValueOrNamed h
 
-refusal : {n : ℕ} → Named n → Holder (refuses n)
-refusal {n} r = record { answer = a.Refused (number_for r.refusal); holds = ap refuses r.is }
+pub refusal : {n : ℕ} → Named n → Holder (refuses n)
+refusal {n} r = record { answer = a.Refused (number_for r.refusal); holds = ap refuses r.is; named = λ e. (r.refusal, r.is) }
 
 either : {x y : Held} (b : Bool) → Holder x → Holder y → Holder (cond b x y)
 either true p q = p
@@ -61,18 +64,18 @@ in_range true true p = p
 in_range true false p = refusal (by SecondValue)
 in_range false second p = refusal (by FirstValue)
 
-judged : {n k : ℕ} {l : Logs} {e : Edges} → Named n → Holder (judges n k l e)
-judged {n} {k} {l} {e} r = record { answer = Judged k (number_for r.refusal) l e; holds = ap (λ (m : ℕ). judges m k l e) r.is }
+pub judged : {n k : ℕ} {l : Logs} {e : Edges} → Named n → Holder (judges n k l e)
+judged {n} {k} {l} {e} r = record { answer = Judged k (number_for r.refusal) l e; holds = ap (λ (m : ℕ). judges m k l e) r.is; named = λ e. (r.refusal, r.is) }
 
-shown : {k : ℕ} {l : Logs} {e : Edges} {s : rust.Option Ends} {v : ℤ} → Holder (shows k l e s v)
-shown = record { answer = Shows _ _ _ _ _; holds = refl }
+pub shown : {k : ℕ} {l : Logs} {e : Edges} {s : rust.Option Ends} {v : ℤ} → Holder (shows k l e s v)
+shown = record { answer = Shows _ _ _ _ _; holds = refl; named = λ e. let f : ◌≡◌ {A = ℕ} 0 1 = cc in absurd (omega arith) }
 
 -- a fit shows a value or is judged, by the logarithms or by the fit
-fit : (r : Rule) → Named r.logs_number → Named r.fit_number → (s : rust.Option Strip) (l : Logs) (q : ℤ → Point) → Holder (held_at r s l q)
+pub fit : (r : Rule) → Named r.logs_number → Named r.fit_number → (s : rust.Option Strip) (l : Logs) (q : ℤ → Point) → Holder (held_at r s l q)
 unfolding held_at
 fit r m n s l q = either (any_place s (λ v. r.beyond_logs v l.z) l.y) (judged m) (either (any_place s (λ v. r.beyond_fit (q v).edge.fit) l.y) (judged n) shown)
 
-entropy : (l : Logs) → Holder (entropy_from l)
+pub entropy : (l : Logs) → Holder (entropy_from l)
 unfolding entropy_in
 entropy l = either (beyond_entropy l) (judged (by OutsideFits)) shown
 
