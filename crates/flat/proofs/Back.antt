@@ -12,7 +12,7 @@ use Rattle.air.specs.declared.Edges.TheVariants.{Unfitted, One, Two}
 use Rattle.air.specs.declared.Ends.{Ends}
 use Rattle.air.specs.Held.{Held, held}
 use Rattle.state.specs.State.{IsAnswer}
-use Rattle.state.proofs.Shapes.{Shapes, allowed}
+use Rattle.state.proofs.Shapes.{Shapes, allowed_has}
 use Rattle.flat.specs.Flat.{low_value, high_value, flat}
 use Rattle.flat.specs.Back.{held_in, FlatKeepsAll}
 
@@ -68,8 +68,8 @@ back h = all h.number h.letter h.logs h.edges h.ends h.value
 
 -- ---- an allowed answer has ends exactly where these tell them
 settles : Shapes (λ h. settled h ≡ h)
-settles = record { refused = λ n. refl; judged = λ n. refl; plain = refl; one = refl; two = refl }
+settles = record { refused = λ r. refl; judged = λ r. refl; unfitted = refl; one = refl; two = refl }
 
 pub flat_keeps_all : FlatKeepsAll
 unfolding IsAnswer
-flat_keeps_all kind first second a x = back (held a) ∙ allowed settles (kind_of kind) first second (held a) x
+flat_keeps_all kind first second a x = back (held a) ∙ allowed_has settles (kind_of kind) first second (held a) x

@@ -1,7 +1,6 @@
 -- What lawful choices make of a sheet and a list is an output that document 01 allows.
 -- Assumes nothing.
 use Rattle.std.specs.Prelude as rust
-use Rattle.std.specs.Prelude.{Some, None, Ok, Err}
 use mathlib.Core.List.{List, [], ◌∷◌, ◌++◌}
 use mathlib.Core.Path.{◌≡◌, refl, ap, subst}
 use Prim.Native.Nat.{ℕ}
@@ -22,9 +21,8 @@ use Rattle.calculator.specs.Search.{answer_at, search_by}
 use Rattle.calculator.proofs.Demand3.{search_allowed}
 use Rattle.line.specs.Line.{line}
 use Rattle.name_list.specs.Lines.{lines_of}
-use Rattle.refusal.specs.declared.Refusal.TheVariants.{UnknownKind, FirstValue, SecondValue, OutsideFits, TemperatureFit, Gamma}
 use Rattle.refusal.specs.Numbered.{number_for}
-use Rattle.state.proofs.Shapes.{Number, unknown_kind, first_value, second_value, outside_fits, temperature_fit, gamma, Shapes, made}
+use Rattle.state.proofs.Shapes.{Shapes, made_has}
 use Rattle.report.specs.Named.{ValueOrNamed}
 use Rattle.report.proofs.Named.{Named, by, LookupNamed, is_err, is_ok, located}
 use Rattle.report.specs.Listing.{lines_by, listing_by, Lines, done, next, IsListing}
@@ -44,23 +42,15 @@ judged {n} {k} {l} {e} r = record { answer = Judged k (number_for r.refusal) l e
 shown : {k : ℕ} {l : Logs} {e : Edges} {s : rust.Option Ends} {v : ℤ} → Holder (shows k l e s v)
 shown = record { answer = Shows _ _ _ _ _; holds = refl; named = λ e. let f : ◌≡◌ {A = ℕ} 0 1 = cc in absurd (omega arith) }
 
-name : {n : ℕ} → Number n → Named n
-name unknown_kind = by UnknownKind
-name first_value = by FirstValue
-name second_value = by SecondValue
-name outside_fits = by OutsideFits
-name temperature_fit = by TemperatureFit
-name gamma = by Gamma
-
 -- whatever is held for a state, an answer holds it
 pub holders : Shapes Holder
-holders = record { refused = λ n. refusal (name n); judged = λ n. judged (name n); plain = shown; one = shown; two = shown }
+holders = record { refused = λ r. refusal (by r); judged = λ r. judged (by r); unfitted = shown; one = shown; two = shown }
 
 module _ (c : Choices) where
   -- an answer to a state
   pub state : (kind first second : ℕ) → Holder (answer_by c kind first second)
   unfolding answer_by
-  state kind first second = made holders c (kind_of kind) first second
+  state kind first second = made_has holders c (kind_of kind) first second
 
   found : {f : Lookup} → LookupNamed f → Holder (answer_at c f)
   found (is_err r) = refusal (by r)

@@ -9,7 +9,7 @@ use Rattle.air.specs.declared.Answer.{Answer}
 use Rattle.air.specs.declared.Answer.TheVariants.{Refused}
 use Rattle.air.specs.Held.{held, refuses}
 use Rattle.state.specs.State.{IsAnswer}
-use Rattle.state.proofs.Shapes.{allowed}
+use Rattle.state.proofs.Shapes.{allowed_has}
 use Rattle.sheet_search.specs.Find.{Lookup}
 use Rattle.sheet.specs.Sheet.{sheet_by}
 use Rattle.calculator.specs.Search.{AnswerAt, IsSearch, locate}
@@ -19,7 +19,7 @@ use Rattle.report.proofs.Allowed.{holders}
 
 pub state_named : StateNamed
 unfolding IsAnswer
-state_named kind first second a x = (allowed holders (kind_of kind) first second (held a) x).named
+state_named kind first second a x = (allowed_has holders (kind_of kind) first second (held a) x).named
 
 found : {f : Lookup} (a : Answer) → LookupNamed f → AnswerAt f a → ValueOrNamed (held a)
 found a (is_err r) x = subst ValueOrNamed (sym x) (λ e. (r, refl))
@@ -29,7 +29,7 @@ pub search_named : SearchNamed
 unfolding IsSearch
 search_named s spelling a x = found a (located s spelling) x
 
--- their premises are met by a kind and by a sheet that are refused, and a number that no refusal has is refused
+-- both premises are met by an unknown kind and by an empty sheet, and 0 is no refusal's number
 pub refused_state : IsAnswer 0 0 0 (Refused 6) × ((held (Refused 6)).value ≡ none)
 unfolding IsAnswer
 refused_state = (refl, refl)
